@@ -1,0 +1,9 @@
+pub mod Bounds
+pub mod Fields
+pub mod Fill
+pub mod Got
+pub mod Linear
+pub mod Lists
+pub mod Order
+pub mod Orders
+pub mod Tests
