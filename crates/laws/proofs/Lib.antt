@@ -7,3 +7,4 @@ pub mod Lists
 pub mod Order
 pub mod Orders
 pub mod Tests
+pub mod Bits

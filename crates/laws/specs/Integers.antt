@@ -24,3 +24,8 @@ eqℤ (pos a) (pos b) = eqb a b
 eqℤ (pos a) (negsuc b) = false
 eqℤ (negsuc a) (pos b) = false
 eqℤ (negsuc a) (negsuc b) = eqb a b
+
+-- the number, or 0 where it is negative
+abbrev pub natOf : ℤ → ℕ
+natOf (pos n) = n
+natOf (negsuc n) = 0
