@@ -3,18 +3,19 @@
 -- proves `a ≤ℤ b`, `a <ℤ b`, `a ≡ b` on integers, `Within B z` and `SFits w z` from such facts in reach. `signed` has the rules that turn each such statement into its parts.
 -- Each sum, difference, negation that stands in the facts or in the goal is listed: `sum x y` for `x +ℤ y`, `dif x y` for `x -ℤ y`, `neg x` for `negℤ x`.
 use mathlib.Core.Path.{_≡_, refl, sym, ap, _∙_, subst}
-use mathlib.Core.Bool.{Bool, true, false, not, cond}
+use mathlib.Core.Bool.{Bool, true, false, cond}
 use Prim.Native.Nat.{ℕ, zero, suc, _+_, _-_, _≤_, _<_, _^_, min}
 use native.Mathlib.Omega.{arith}
 use mathlib.Core.Logic.{_≢_}
-use borrow.Author.Tests.{eqb-true, eqb-false, eq-eqb, ne-eqb}
-use lib.Dec.{T, ltb, leb→le, le→leb, ltb→lt, lt→ltb, nleb→lt, nltb→le}
+use borrow.Author.Tests.{leb-false, ltb-true, ltb-false, eqb-true, eqb-false, eq-eqb, ne-eqb}
+use lib.Dec.{T, ltb, leb→le, le→leb, ltb→lt, lt→ltb}
 use lib.IntN.{ℤ, pos, negsuc, subℕ, negℤ, natAbs, _+ℤ_, _-ℤ_}
 use lib.Signed.{leZ, ltZ, mag, nonNeg, _≤ℤ_, _<ℤ_}
 use mir.Syntax.{Width, w16, w32, w64}
 use mir.Val.{Fits, SFits, hbits, toZ, ofZ}
-use mir.Facts.{toZ-ofZ, sfits-widen, sfits-lit}
+use mir.Facts.{toZ-ofZ, sfits-widen}
 use Rattle.laws.specs.Integers.{up, dn, Within, eqℤ}
+use Rattle.laws.proofs.Tests.{is-true, is-false, true-is, clash}
 
 -- ---- the orders and the equation, by the parts
 pub le-out : {a b : ℤ} → a ≤ℤ b → up a + dn b ≤ up b + dn a
@@ -55,43 +56,35 @@ ne-out {a} {b} h e = h (eq-in {a = a} {b = b} e)
 
 -- ---- tests that compute, as a branch on signed numbers leaves them
 pub leZ-true : (a b : ℤ) → leZ a b ≡ true → up a + dn b ≤ up b + dn a
-leZ-true a b e = le-out {a = a} {b = b} (record { le = subst T (sym e) tt })
+leZ-true a b e = le-out {a = a} {b = b} (record { le = true-is e })
 
 pub leZ-false : (a b : ℤ) → leZ a b ≡ false → up b + dn a < up a + dn b
-leZ-false (pos a) (pos b) e = omega (arith, nleb→lt a b (subst (λ (t : Bool). T (not t)) (sym e) tt))
+leZ-false (pos a) (pos b) e = omega (arith, leb-false a b e)
 leZ-false (pos a) (negsuc b) e = omega arith
-leZ-false (negsuc a) (pos b) e = absurd (subst T e tt)
-leZ-false (negsuc a) (negsuc b) e = omega (arith, nleb→lt b a (subst (λ (t : Bool). T (not t)) (sym e) tt))
+leZ-false (negsuc a) (pos b) e = clash refl e
+leZ-false (negsuc a) (negsuc b) e = omega (arith, leb-false b a e)
 
 pub ltZ-true : (a b : ℤ) → ltZ a b ≡ true → up a + dn b < up b + dn a
-ltZ-true a b e = lt-out {a = a} {b = b} (record { lt = subst T (sym e) tt })
+ltZ-true a b e = lt-out {a = a} {b = b} (record { lt = true-is e })
 
 pub ltZ-false : (a b : ℤ) → ltZ a b ≡ false → up b + dn a ≤ up a + dn b
-ltZ-false (pos a) (pos b) e = omega (arith, nltb→le a b (subst (λ (t : Bool). T (not t)) (sym e) tt))
+ltZ-false (pos a) (pos b) e = omega (arith, ltb-false a b e)
 ltZ-false (pos a) (negsuc b) e = omega arith
-ltZ-false (negsuc a) (pos b) e = absurd (subst T e tt)
-ltZ-false (negsuc a) (negsuc b) e = omega (arith, nltb→le b a (subst (λ (t : Bool). T (not t)) (sym e) tt))
-
-is-true : (t : Bool) → T t → t ≡ true
-is-true true h = refl
-is-true false h = absurd h
-
-is-false : (t : Bool) → (T t → ⊥) → t ≡ false
-is-false true h = absurd (h tt)
-is-false false h = refl
+ltZ-false (negsuc a) (pos b) e = clash refl e
+ltZ-false (negsuc a) (negsuc b) e = omega (arith, ltb-false b a e)
 
 -- and back
 pub true-leZ : (a b : ℤ) → up a + dn b ≤ up b + dn a → leZ a b ≡ true
-true-leZ a b h = is-true (leZ a b) (le-in {a = a} {b = b} h .le)
+true-leZ a b h = is-true (le-in {a = a} {b = b} h .le)
 
 pub true-ltZ : (a b : ℤ) → up a + dn b < up b + dn a → ltZ a b ≡ true
-true-ltZ a b h = is-true (ltZ a b) (lt-in {a = a} {b = b} h .lt)
+true-ltZ a b h = is-true (lt-in {a = a} {b = b} h .lt)
 
 pub false-leZ : (a b : ℤ) → up b + dn a < up a + dn b → leZ a b ≡ false
-false-leZ a b h = is-false (leZ a b) (λ t. let k : up a + dn b ≤ up b + dn a = le-out {a = a} {b = b} (record { le = t }) in omega arith)
+false-leZ a b h = is-false (λ t. let k = leZ-true a b t in omega arith)
 
 pub false-ltZ : (a b : ℤ) → up b + dn a ≤ up a + dn b → ltZ a b ≡ false
-false-ltZ a b h = is-false (ltZ a b) (λ t. let k : up a + dn b < up b + dn a = lt-out {a = a} {b = b} (record { lt = t }) in omega arith)
+false-ltZ a b h = is-false (λ t. let k = ltZ-true a b t in omega arith)
 
 pub T-leZ : (a b : ℤ) → T (leZ a b) → up a + dn b ≤ up b + dn a
 T-leZ a b t = le-out {a = a} {b = b} (record { le = t })
@@ -107,8 +100,8 @@ ltZ-T a b h = lt-in {a = a} {b = b} h .lt
 
 pub eqℤ-true : (a b : ℤ) → eqℤ a b ≡ true → up a + dn b ≡ up b + dn a
 eqℤ-true (pos a) (pos b) e = omega (arith, eqb-true a b e)
-eqℤ-true (pos a) (negsuc b) e = absurd (subst T (sym e) tt)
-eqℤ-true (negsuc a) (pos b) e = absurd (subst T (sym e) tt)
+eqℤ-true (pos a) (negsuc b) e = clash e refl
+eqℤ-true (negsuc a) (pos b) e = clash e refl
 eqℤ-true (negsuc a) (negsuc b) e = omega (arith, eqb-true a b e)
 
 pub eqℤ-false : (a b : ℤ) → eqℤ a b ≡ false → up a + dn b ≢ up b + dn a
@@ -149,8 +142,8 @@ sub-parts : (a b : ℕ) → (up (subℕ a b) + b ≡ a + dn (subℕ a b)) × (up
 sub-parts a b = by (ltb a b) refl
   where
     by : (t : Bool) → ltb a b ≡ t → (up (cond t (negsuc (b - suc a)) (pos (a - b))) + b ≡ a + dn (cond t (negsuc (b - suc a)) (pos (a - b)))) × (up (cond t (negsuc (b - suc a)) (pos (a - b))) ≤ a) × (dn (cond t (negsuc (b - suc a)) (pos (a - b))) ≤ b)
-    by true e = let h : a < b = ltb→lt a b (subst T (sym e) tt) in omega arith
-    by false e = let h : b ≤ a = nltb→le a b (subst (λ (t : Bool). T (not t)) (sym e) tt) in omega arith
+    by true e = let h : a < b = ltb-true a b e in omega arith
+    by false e = let h : b ≤ a = ltb-false a b e in omega arith
 
 pub sum : (x y : ℤ) → Sum x y (x +ℤ y)
 sum (pos a) (pos b) = omega arith
@@ -191,25 +184,13 @@ pub fits-in : {w : Width} {z : ℤ} → (up z < 2 ^ hbits w) × (dn z ≤ 2 ^ hb
 fits-in {z = pos a} h = record { sfits = h .0 }
 fits-in {z = negsuc a} h = record { sfits = h .1 }
 
--- ---- what code does to a signed number: it holds its bits, and reads them back, `toZ w (ofZ w z)`
-pub record Back (w : Width) (z : ℤ) : Type 0 where
-  pub high : up (toZ w (ofZ w z)) ≡ up z
-  pub low : dn (toZ w (ofZ w z)) ≡ dn z
-
+-- ---- what code does to a signed number: it holds its bits, and reads them back, `toZ w (ofZ w z)` (more of it in Integers.antt)
 -- (`abbrev`, since a set's entry that a call does not need is refused unless it unfolds)
 abbrev pub wide : {z : ℤ} → SFits w32 z → SFits w64 z
 wide h = sfits-widen tt h
 
 abbrev pub told : {w : Width} {z : ℤ} → mag z < 2 ^ hbits w → SFits w z
 told h = record { sfits = h }
-
--- of a parameter, `back (c .fits .x)`
-pub back : {w : Width} {z : ℤ} → SFits w z → Back w z
-back h = record { high = ap up (toZ-ofZ h); low = ap dn (toZ-ofZ h) }
-
--- of an element that was read, `read w32 z (c .x .given)`
-pub read : (w : Width) (z : ℤ) → mag z < 2 ^ hbits w → Back w z
-read w z h = back (record { sfits = h })
 
 -- `==` compares the bits
 pub bits-eq : {w : Width} {x y : ℤ} → SFits w x → SFits w y → ofZ w x ≡ ofZ w y → x ≡ y
@@ -227,47 +208,26 @@ pub ruleset reads = (toZ-ofZ, told, wide)
 pub ruleset signed = (le-out, le-in, lt-out, lt-in, eq-out, eq-in, leZ-true, leZ-false, ltZ-true, ltZ-false, true-leZ, true-ltZ, false-leZ, false-ltZ, T-leZ, leZ-T, T-ltZ, ltZ-T, eqℤ-true, eqℤ-false, true-eqℤ, false-eqℤ, nonNeg-T, T-nonNeg)
 
 -- ---- examples
-example-1 : (a b c : ℤ) → a ≤ℤ b → b ≤ℤ c → a ≤ℤ c
-example-1 a b c h k = omega (arith, signed)
 
-example-2 : (a b c : ℤ) → a ≤ℤ b → (a +ℤ c) ≤ℤ (b +ℤ c)
-example-2 a b c h = omega (arith, signed, sum a c, sum b c)
+-- a sum on both sides: each sum is listed
+example-1 : (a b c : ℤ) → a ≤ℤ b → (a +ℤ c) ≤ℤ (b +ℤ c)
+example-1 a b c h = omega (arith, signed, sum a c, sum b c)
 
-example-3 : (a b c : ℤ) → leZ a b ≡ false → (b +ℤ pos 1) ≤ℤ a
-example-3 a b c h = omega (arith, signed, sum b (pos 1))
+-- a test that failed
+example-2 : (a b : ℤ) → leZ a b ≡ false → (b +ℤ pos 1) ≤ℤ a
+example-2 a b h = omega (arith, signed, sum b (pos 1))
 
-example-4 : (a b : ℤ) → Within 1000 a → a ≤ℤ b → b <ℤ pos 2000 → Within 2000 b
-example-4 a b h k l = omega (arith, signed, num b)
+-- a bound, by `num`
+example-3 : (a b : ℤ) → Within 1000 a → a ≤ℤ b → b <ℤ pos 2000 → Within 2000 b
+example-3 a b h k l = omega (arith, signed, num b)
 
-example-5 : (a b c : ℤ) → (a +ℤ b) +ℤ c ≡ a +ℤ (b +ℤ c)
-example-5 a b c = omega (arith, signed, sum a b, sum (a +ℤ b) c, sum b c, sum a (b +ℤ c))
+-- a width's range, and a cast to a natural
+example-4 : (a : ℤ) → SFits w32 a → SFits w64 (a -ℤ pos 7)
+example-4 a h = omega (arith, signed, num a, dif a (pos 7), num (a -ℤ pos 7))
 
-example-6 : (a b : ℤ) → Within 1000000 a → Within 5000000 b → SFits w64 (a +ℤ b)
-example-6 a b h k = omega (arith, signed, sum a b, num (a +ℤ b))
+example-5 : (a : ℤ) → SFits w32 a → leZ (pos 1) a ≡ true → leZ a (pos 65535) ≡ true → Fits w16 (natAbs a)
+example-5 a h k l = omega (arith, signed, num a)
 
-example-7 : (a : ℤ) → SFits w32 a → SFits w64 (a -ℤ pos 7)
-example-7 a h = omega (arith, signed, num a, dif a (pos 7), num (a -ℤ pos 7))
-
-example-8 : (a : ℤ) → SFits w32 a → leZ (pos 1) a ≡ true → leZ a (pos 65535) ≡ true → Fits w16 (natAbs a)
-example-8 a h k l = omega (arith, signed, num a)
-
-example-9 : (a : ℤ) → SFits w32 a → leZ (pos 1) a ≡ true → pos (natAbs a) ≡ a
-example-9 a h k = omega (arith, signed, num a)
-
-example-10 : (a b : ℤ) → ltZ a b ≡ true → leZ b a ≡ false
-example-10 a b h = omega (arith, signed)
-
-example-11 : (a b : ℤ) → ltZ a b ≡ true → leZ b a ≡ true → ⊥
-example-11 a b h k = omega (arith, signed)
-
-example-12 : (a : ℤ) → T (leZ (pos 1) a) → T (nonNeg a)
-example-12 a h = omega (arith, signed)
-
-example-13 : (x : ℤ) → SFits w64 x → ofZ w64 x ≡ 18446744073709551615 → eqℤ x (negsuc 0) ≡ true
-example-13 x f e = omega (arith, signed, bits-eq {y = negsuc 0} f (sfits-lit tt) e)
-
-example-14 : (x : ℤ) → (ofZ w64 x ≡ 18446744073709551615 → ⊥) → eqℤ x (negsuc 0) ≡ false
-example-14 x e = omega (arith, signed, ne-out (bits-ne w64 x (negsuc 0) e))
-
-example-15 : (x y : ℤ) → (x ≡ y → ⊥) → x ≤ℤ y → x <ℤ y
-example-15 x y h k = omega (arith, signed, ne-out h)
+-- `x == -1` that failed
+example-6 : (x : ℤ) → (ofZ w64 x ≡ 18446744073709551615 → ⊥) → eqℤ x (negsuc 0) ≡ false
+example-6 x e = omega (arith, signed, ne-out (bits-ne w64 x (negsuc 0) e))

@@ -1,110 +1,300 @@
--- Sums and maxima of lists of integers.
-use mathlib.Core.Path.{_≡_, refl, sym, ap, _∙_}
-use mathlib.Core.Bool.{Bool, true, false, _&&_, cond}
-use lib.Dec.{T, leb, leb→le}
-use mir.Facts.{and-yes}
-use mathlib.Core.List.{List, [], _∷_, _++_}
-use Prim.Native.Nat.{ℕ, zero, suc, _+_, _*_, _-_, _≤_, _<_, min}
+-- The laws of the functions on lists that specs/Lists.antt defines, over elements of any type (those of integers are in Sums.antt). `d` is the default of `getD`, any element.
+use mathlib.Core.Path.{_≡_, refl, sym, ap, _∙_, subst}
+use mathlib.Core.Bool.{Bool, true, false, not, cond, _&&_, _||_, and-true, and-assoc}
+use mathlib.Core.Logic.{_⊎_, inl, inr, ⊎-elim}
+use mathlib.Core.List.{List, [], _∷_, _++_, map, map-append, append-assoc, List·Memᴰ, List·Memᴰ·head, List·Memᴰ·tail, List·Memᴰ·not-nil, List·Memᴰ·cases-cons, List·Memᴰ·append-cases, Memᴰ·append-left, Memᴰ·append-right, Memᴰ·cast}
+use Prim.Native.Nat.{ℕ, zero, suc, _+_, _-_, _≤_, _<_, zero-le, suc-le-suc}
+use native.Mathlib.Nat.{le-trans, le-of-eq}
 use native.Mathlib.Numerals.{add-one}
-use native.Mathlib.Decide.{ℕ-discrete}
 use native.Mathlib.Omega.{arith}
-use lib.IntN.{ℤ, pos, _+ℤ_, +ℤ-idl, +ℤ-idr, +ℤ-assoc}
-use lib.ListN.{length, getD, take, drop, set, replicate, length-take, length-drop, length-set, length-replicate, getD-replicate}
-use lib.Seq.{take-suc, getD-take, getD-drop, getD-set-same, getD-set-other}
-use lib.Signed.{ltZ, _≤ℤ_}
-use Rattle.laws.specs.Integers.{up, dn, Within}
-use Rattle.laws.specs.Lists.{Each, sumℤ, larger, maxFrom}
-use Rattle.laws.proofs.Linear.{signed, sum}
+use borrow.Author.Tests.{not-true, not-false}
+use lib.ListN.{length, getD, take, drop, length-append}
+use lib.Seq.{take-suc, drop-cons}
+use Rattle.laws.specs.Lists.{all, any, keep, count, concat, eqList, noneTwice, Distinct, numbersFrom, oneTo}
+use Rattle.laws.proofs.Tests.{if-ind, by-test, both, both-of, one-of, clash, is-false}
 
--- ---- sums
-pub sum-++ : (xs ys : List ℤ) → sumℤ (xs ++ ys) ≡ sumℤ xs +ℤ sumℤ ys
-sum-++ [] ys = sym (+ℤ-idl (sumℤ ys))
-sum-++ (x ∷ xs) ys = ap (λ (z : ℤ). x +ℤ z) (sum-++ xs ys) ∙ sym (+ℤ-assoc x (sumℤ xs) (sumℤ ys))
+-- ---- places and members
 
--- one element more, as a loop adds it
-pub sum-take : (xs : List ℤ) (i : ℕ) → i < length xs → sumℤ (take (i + 1) xs) ≡ sumℤ (take i xs) +ℤ getD xs i (pos 0)
-sum-take xs i h = rw (add-one, take-suc xs i (pos 0), sum-++) (ap (λ (z : ℤ). sumℤ (take i xs) +ℤ z) (+ℤ-idr (getD xs i (pos 0))))
+module _ {A : Type 0} where
+  -- one element more or less, as a loop's `i + 1` has it
+  pub drop-next : (xs : List A) (i : ℕ) (d : A) → i < length xs → drop i xs ≡ getD xs i d ∷ drop (i + 1) xs
+  drop-next xs i d h = rw (add-one, drop-cons xs i d)
 
-each-tail : {B : ℕ} {x : ℤ} {xs : List ℤ} → Each B (x ∷ xs) → Each B xs
-each-tail e = record { at = λ i l. e .at (suc i) (omega arith) }
+  pub take-next : (xs : List A) (i : ℕ) (d : A) → i < length xs → take (i + 1) xs ≡ take i xs ++ (getD xs i d ∷ [])
+  take-next xs i d h = rw (add-one, take-suc xs i d)
 
-pub sum-within : (B : ℕ) (xs : List ℤ) → Each B xs → Within (length xs * B) (sumℤ xs)
-sum-within B [] e = omega arith
-sum-within B (x ∷ xs) e = omega (arith, e .at 0 (omega arith), sum-within B xs (each-tail e), sum x (sumℤ xs))
+  -- what stands at a place is a member, and a member stands at a place
+  pub getD-mem : (xs : List A) (i : ℕ) (d : A) → i < length xs → List·Memᴰ (getD xs i d) xs
+  getD-mem [] i d h = absurd (omega arith)
+  getD-mem (x ∷ xs) zero d h = List·Memᴰ·head refl
+  getD-mem (x ∷ xs) (suc i) d h = List·Memᴰ·tail (getD-mem xs i d (omega arith))
 
-pub each-take : (B : ℕ) (n : ℕ) (xs : List ℤ) → Each B xs → Each B (take n xs)
-each-take B n xs e = record { at = λ i l. let k : i < min n (length xs) = rw length-take at l in let m : i < n = omega arith in rw getD-take (e .at i (omega arith)) }
+  pub mem-getD : {x : A} (xs : List A) (d : A) → List·Memᴰ x xs → (i : ℕ) × (i < length xs) × (getD xs i d ≡ x)
+  mem-getD [] d m = absurd (List·Memᴰ·not-nil m)
+  mem-getD (y ∷ xs) d m =
+      ⊎-elim (λ e. (0, omega arith, sym e)) (λ m′. let r = mem-getD xs d m′ in (suc (r .0), suc-le-suc (r .1), r .2)) (List·Memᴰ·cases-cons m)
 
-pub each-drop : (B : ℕ) (n : ℕ) (xs : List ℤ) → Each B xs → Each B (drop n xs)
-each-drop B n xs e = record { at = λ i l. let k : i < length xs - n = rw length-drop at l in rw getD-drop (e .at (n + i) (omega arith)) }
+-- ---- all
 
-set-at-by : (B : ℕ) (xs : List ℤ) (i : ℕ) (v : ℤ) → Each B xs → Within B v → (j : ℕ) → j < length xs → Dec (j ≡ i) → Within B (getD (set xs i v) j (pos 0))
-set-at-by B xs i v e h j l (yes p) = let k : i < length xs = omega arith in rw (p, getD-set-same) h
-set-at-by B xs i v e h j l (no n) = rw (getD-set-other xs i j v (pos 0) n) (e .at j l)
+module _ {A : Type 0} (test : A → Bool) where
+  pub all-++ : (xs ys : List A) → all test (xs ++ ys) ≡ all test xs && all test ys
+  all-++ [] ys = refl
+  all-++ (x ∷ xs) ys = rw (all-++ xs ys) (sym (and-assoc (test x) (all test xs) (all test ys)))
 
--- a store keeps the bound, and so does zeroing
-pub each-set : (B : ℕ) (xs : List ℤ) (i : ℕ) (v : ℤ) → Each B xs → Within B v → Each B (set xs i v)
-each-set B xs i v e h = record { at = λ j l. set-at-by B xs i v e h j (rw length-set at l) (ℕ-discrete j i) }
+  -- of each member, and back
+  pub all-mem : (xs : List A) → all test xs ≡ true → (x : A) → List·Memᴰ x xs → test x ≡ true
+  all-mem [] h x m = absurd (List·Memᴰ·not-nil m)
+  all-mem (y ∷ xs) h x m =
+      let b = both (test y) (all test xs) h in
+      ⊎-elim (λ e. ap test e ∙ b .0) (λ m′. all-mem xs (b .1) x m′) (List·Memᴰ·cases-cons m)
 
-pub each-replicate : (B n : ℕ) (v : ℤ) → Within B v → Each B (replicate n v)
-each-replicate B n v h = record { at = λ i l. let k : i < n = rw length-replicate at l in rw getD-replicate h }
+  pub mem-all : (xs : List A) → ((x : A) → List·Memᴰ x xs → test x ≡ true) → all test xs ≡ true
+  mem-all [] h = refl
+  mem-all (x ∷ xs) h = both-of (h x (List·Memᴰ·head refl)) (mem-all xs (λ y m. h y (List·Memᴰ·tail m)))
 
--- the sum of the first i elements: within i * B
-pub sum-take-within : (B i : ℕ) (xs : List ℤ) → Each B xs → i ≤ length xs → Within (i * B) (sumℤ (take i xs))
-sum-take-within B i xs e l = let n : length (take i xs) ≡ i = length-take i xs ∙ omega arith in rw n at (sum-within B (take i xs) (each-take B i xs e))
+  -- at each place, and back
+  pub all-at : (xs : List A) (d : A) → all test xs ≡ true → (i : ℕ) → i < length xs → test (getD xs i d) ≡ true
+  all-at xs d h i l = all-mem xs h (getD xs i d) (getD-mem xs i d l)
 
--- ---- maxima
-pub max-snoc : (b : ℤ) (xs : List ℤ) (y : ℤ) → maxFrom b (xs ++ (y ∷ [])) ≡ larger (maxFrom b xs) y
-max-snoc b [] y = refl
-max-snoc b (x ∷ xs) y = max-snoc (larger b x) xs y
+  pub at-all : (xs : List A) (d : A) → ((i : ℕ) → i < length xs → test (getD xs i d) ≡ true) → all test xs ≡ true
+  at-all xs d h = mem-all xs (λ x m. let r = mem-getD xs d m in ap test (sym (r .2)) ∙ h (r .0) (r .1))
 
-larger-by : (a b : ℤ) (t : Bool) → ltZ a b ≡ t → (a ≤ℤ cond t b a) × (b ≤ℤ cond t b a)
-larger-by a b true e = omega (arith, signed)
-larger-by a b false e = omega (arith, signed)
+  -- one place that fails
+  pub all-fails : (xs : List A) (i : ℕ) (d : A) → i < length xs → test (getD xs i d) ≡ false → all test xs ≡ false
+  all-fails xs i d l f = is-false (λ h. clash (all-at xs d h i l) f)
 
-pub larger-ge : (a b : ℤ) → (a ≤ℤ larger a b) × (b ≤ℤ larger a b)
-larger-ge a b = larger-by a b (ltZ a b) refl
+  -- one turn of a loop
+  pub all-drop : (xs : List A) (i : ℕ) (d : A) → i < length xs → all test (drop i xs) ≡ test (getD xs i d) && all test (drop (i + 1) xs)
+  all-drop xs i d h = ap (all test) (drop-next xs i d h)
 
--- it is at least the start, and at least each element
-pub max-ge-start : (b : ℤ) (xs : List ℤ) → b ≤ℤ maxFrom b xs
-max-ge-start b [] = omega (arith, signed)
-max-ge-start b (x ∷ xs) = omega (arith, signed, larger-ge b x .0, max-ge-start (larger b x) xs)
+  pub all-take : (xs : List A) (i : ℕ) (d : A) → i < length xs → all test (take (i + 1) xs) ≡ all test (take i xs) && test (getD xs i d)
+  all-take xs i d h = ap (all test) (take-next xs i d h) ∙ all-++ (take i xs) (getD xs i d ∷ []) ∙ simp and-true
 
-pub max-ge : (b : ℤ) (xs : List ℤ) (i : ℕ) → i < length xs → getD xs i (pos 0) ≤ℤ maxFrom b xs
-max-ge b [] i l = absurd (omega arith)
-max-ge b (x ∷ xs) zero l = omega (arith, signed, larger-ge b x .1, max-ge-start (larger b x) xs)
-max-ge b (x ∷ xs) (suc i) l = max-ge (larger b x) xs i (omega arith)
+  pub all-concat : (xss : List (List A)) → all test (concat xss) ≡ all (all test) xss
+  all-concat [] = refl
+  all-concat (xs ∷ xss) = all-++ xs (concat xss) ∙ rw (all-concat xss)
 
-larger-within-by : {B : ℕ} (a b : ℤ) (t : Bool) → Within B a → Within B b → Within B (cond t b a)
-larger-within-by a b true h k = k
-larger-within-by a b false h k = h
+pub all-map : {A B : Type 0} (test : B → Bool) (f : A → B) (xs : List A) → all test (map f xs) ≡ all (λ x. test (f x)) xs
+all-map test f [] = refl
+all-map test f (x ∷ xs) = rw (all-map test f xs)
 
-pub larger-within : {B : ℕ} {a b : ℤ} → Within B a → Within B b → Within B (larger a b)
-larger-within {B} {a} {b} h k = larger-within-by a b (ltZ a b) h k
+-- ---- any
 
-pub max-within : (B : ℕ) (b : ℤ) (xs : List ℤ) → Within B b → Each B xs → Within B (maxFrom b xs)
-max-within B b [] h e = h
-max-within B b (x ∷ xs) h e = max-within B (larger b x) xs (larger-within h (e .at 0 (omega arith))) (each-tail e)
+module _ {A : Type 0} (test : A → Bool) where
+  -- none does where each fails
+  pub not-any : (xs : List A) → not (any test xs) ≡ all (λ x. not (test x)) xs
+  not-any [] = refl
+  not-any (x ∷ xs) = by (test x) (not-any xs)
+    where
+      by : (t : Bool) → not (any test xs) ≡ all (λ x. not (test x)) xs → not (t || any test xs) ≡ not t && all (λ x. not (test x)) xs
+      by true e = refl
+      by false e = e
 
--- a loop that keeps the larger: what its test says
-pub larger-yes : (a b : ℤ) → ltZ a b ≡ true → larger a b ≡ b
-larger-yes a b e = ap (λ (t : Bool). cond t b a) e
+  pub any-mem : (xs : List A) → any test xs ≡ true → (x : A) × List·Memᴰ x xs × (test x ≡ true)
+  any-mem [] h = clash h refl
+  any-mem (x ∷ xs) h =
+      ⊎-elim (λ t. (x, List·Memᴰ·head refl, t)) (λ t. let r = any-mem xs t in (r .0, List·Memᴰ·tail (r .1), r .2)) (one-of (test x) (any test xs) h)
 
-pub larger-no : (a b : ℤ) → ltZ a b ≡ false → larger a b ≡ a
-larger-no a b e = ap (λ (t : Bool). cond t b a) e
+  pub mem-any : (xs : List A) (x : A) → List·Memᴰ x xs → test x ≡ true → any test xs ≡ true
+  mem-any xs x m t = not-false (any test xs) (not-any xs ∙ is-false (λ h. clash t (not-true (test x) (all-mem (λ x. not (test x)) xs h x m))))
 
--- ---- a table of literals: each element is within B, by one computed test, `each-by 7 _ tt`
-abbrev pub all-within : ℕ → List ℤ → Bool
-all-within B [] = true
-all-within B (x ∷ xs) = leb (up x) B && (leb (dn x) B && all-within B xs)
+-- ---- keep and count
 
-pub each-by : (B : ℕ) (xs : List ℤ) → T (all-within B xs) → Each B xs
-each-by B [] t = record { at = λ i l. absurd (omega arith) }
-each-by B (x ∷ xs) t =
-    let a = and-yes (leb (up x) B) (leb (dn x) B && all-within B xs) t in
-    let b = and-yes (leb (dn x) B) (all-within B xs) (a .1) in
-    record { at = λ i. by i (leb→le (up x) B (a .0)) (leb→le (dn x) B (b .0)) (each-by B xs (b .1)) }
-  where
-    by : (i : ℕ) → up x ≤ B → dn x ≤ B → Each B xs → i < length (x ∷ xs) → Within B (getD (x ∷ xs) i (pos 0))
-    by zero h k e l = record { high = h; low = k }
-    by (suc i) h k e l = e .at i (omega arith)
+module _ {A : Type 0} (test : A → Bool) where
+  pub mem-keep : (xs : List A) {x : A} → List·Memᴰ x xs → test x ≡ true → List·Memᴰ x (keep test xs)
+  mem-keep [] m t = absurd (List·Memᴰ·not-nil m)
+  mem-keep (y ∷ xs) {x} m t =
+      if-ind (test y) (List·Memᴰ x)
+      (λ _. ⊎-elim (λ e. List·Memᴰ·head e) (λ m′. List·Memᴰ·tail (mem-keep xs m′ t)) (List·Memᴰ·cases-cons m))
+      (λ f. ⊎-elim (λ e. clash (ap test (sym e) ∙ t) f) (λ m′. mem-keep xs m′ t) (List·Memᴰ·cases-cons m))
+
+  pub keep-mem : (xs : List A) {x : A} → List·Memᴰ x (keep test xs) → List·Memᴰ x xs × (test x ≡ true)
+  keep-mem [] m = absurd (List·Memᴰ·not-nil m)
+  keep-mem (y ∷ xs) {x} m₀ =
+      let below : List·Memᴰ x (keep test xs) → List·Memᴰ x (y ∷ xs) × (test x ≡ true) = λ m. let r = keep-mem xs m in (List·Memᴰ·tail (r .0), r .1) in
+      if-ind (test y) (λ (r : List A). List·Memᴰ x r → List·Memᴰ x (y ∷ xs) × (test x ≡ true))
+      (λ t m. ⊎-elim (λ e. (List·Memᴰ·head e, ap test e ∙ t)) below (List·Memᴰ·cases-cons m))
+      (λ _ m. below m) m₀
+
+  pub keep-++ : (xs ys : List A) → keep test (xs ++ ys) ≡ keep test xs ++ keep test ys
+  keep-++ [] ys = refl
+  keep-++ (x ∷ xs) ys = by-test (test x) (λ t. rw (t, keep-++ xs ys)) (λ f. rw (f, keep-++ xs ys))
+
+  pub count-++ : (xs ys : List A) → count test (xs ++ ys) ≡ count test xs + count test ys
+  count-++ [] ys = omega arith
+  count-++ (x ∷ xs) ys = let ih = count-++ xs ys in by-test (test x) (λ t. rw t (omega arith)) (λ f. rw f ih)
+
+  pub count-le : (xs : List A) → count test xs ≤ length xs
+  count-le [] = omega arith
+  count-le (x ∷ xs) = let ih = count-le xs in by-test (test x) (λ t. rw t (omega arith)) (λ f. rw f (omega arith))
+
+  pub keep-length : (xs : List A) → length (keep test xs) ≡ count test xs
+  keep-length [] = refl
+  keep-length (x ∷ xs) = by-test (test x) (λ t. rw (t, keep-length xs)) (λ f. rw f (keep-length xs))
+
+  -- where all pass, all are kept
+  pub keep-all : (xs : List A) → all test xs ≡ true → keep test xs ≡ xs
+  keep-all [] h = refl
+  keep-all (x ∷ xs) h = let b = both (test x) (all test xs) h in rw (b .0, keep-all xs (b .1))
+
+-- two tests that agree on the members
+pub keep-same : {A : Type 0} (test test′ : A → Bool) (xs : List A) → ((x : A) → List·Memᴰ x xs → test x ≡ test′ x) → keep test xs ≡ keep test′ xs
+keep-same test test′ [] h = refl
+keep-same test test′ (x ∷ xs) h = rw (h x (List·Memᴰ·head refl), keep-same test test′ xs (λ y m. h y (List·Memᴰ·tail m)))
+
+-- ---- concat
+
+module _ {A : Type 0} where
+  pub concat-++ : (xss yss : List (List A)) → concat (xss ++ yss) ≡ concat xss ++ concat yss
+  concat-++ [] yss = refl
+  concat-++ (xs ∷ xss) yss = rw (concat-++ xss yss, append-assoc)
+
+  pub mem-concat : (xss : List (List A)) {xs : List A} {x : A} → List·Memᴰ xs xss → List·Memᴰ x xs → List·Memᴰ x (concat xss)
+  mem-concat [] m k = absurd (List·Memᴰ·not-nil m)
+  mem-concat (ys ∷ xss) {xs} {x} m k =
+      ⊎-elim (λ e. Memᴰ·append-left (concat xss) (subst (List·Memᴰ x) e k)) (λ m′. Memᴰ·append-right ys (mem-concat xss m′ k)) (List·Memᴰ·cases-cons m)
+
+  pub concat-mem : (xss : List (List A)) {x : A} → List·Memᴰ x (concat xss) → (xs : List A) × List·Memᴰ xs xss × List·Memᴰ x xs
+  concat-mem [] m = absurd (List·Memᴰ·not-nil m)
+  concat-mem (ys ∷ xss) m =
+      ⊎-elim (λ k. (ys, List·Memᴰ·head refl, k)) (λ k. let r = concat-mem xss k in (r .0, List·Memᴰ·tail (r .1), r .2)) (List·Memᴰ·append-cases ys m)
+
+pub concat-map : {A B : Type 0} (f : A → B) (xss : List (List A)) → map f (concat xss) ≡ concat (map (map f) xss)
+concat-map f [] = refl
+concat-map f (xs ∷ xss) = rw (map-append, concat-map f xss)
+
+-- ---- eqList
+
+module _ {A : Type 0} (eq : A → A → Bool) where
+  pub eqList-is : ((x y : A) → eq x y ≡ true → x ≡ y) → (xs ys : List A) → eqList eq xs ys ≡ true → xs ≡ ys
+  eqList-is is [] [] h = refl
+  eqList-is is [] (y ∷ ys) h = clash h refl
+  eqList-is is (x ∷ xs) [] h = clash h refl
+  eqList-is is (x ∷ xs) (y ∷ ys) h = let b = both (eq x y) (eqList eq xs ys) h in rw (is x y (b .0), eqList-is is xs ys (b .1))
+
+  pub eqList-refl : ((x : A) → eq x x ≡ true) → (xs : List A) → eqList eq xs xs ≡ true
+  eqList-refl r [] = refl
+  eqList-refl r (x ∷ xs) = both-of (r x) (eqList-refl r xs)
+
+  pub eqList-length : (xs ys : List A) → eqList eq xs ys ≡ true → length xs ≡ length ys
+  eqList-length [] [] h = refl
+  eqList-length [] (y ∷ ys) h = clash h refl
+  eqList-length (x ∷ xs) [] h = clash h refl
+  eqList-length (x ∷ xs) (y ∷ ys) h = ap suc (eqList-length xs ys (both (eq x y) (eqList eq xs ys) h .1))
+
+  -- at each place, and back
+  pub eqList-at : (xs ys : List A) (d : A) → eqList eq xs ys ≡ true → (i : ℕ) → i < length xs → eq (getD xs i d) (getD ys i d) ≡ true
+  eqList-at [] ys d h i l = absurd (omega arith)
+  eqList-at (x ∷ xs) [] d h i l = clash h refl
+  eqList-at (x ∷ xs) (y ∷ ys) d h zero l = both (eq x y) (eqList eq xs ys) h .0
+  eqList-at (x ∷ xs) (y ∷ ys) d h (suc i) l = eqList-at xs ys d (both (eq x y) (eqList eq xs ys) h .1) i (omega arith)
+
+  pub at-eqList : (xs ys : List A) (d : A) → length xs ≡ length ys → ((i : ℕ) → i < length xs → eq (getD xs i d) (getD ys i d) ≡ true) → eqList eq xs ys ≡ true
+  at-eqList [] [] d e h = refl
+  at-eqList [] (y ∷ ys) d e h = absurd (omega arith)
+  at-eqList (x ∷ xs) [] d e h = absurd (omega arith)
+  at-eqList (x ∷ xs) (y ∷ ys) d e h = both-of (h 0 (omega arith)) (at-eqList xs ys d (omega arith) (λ i l. h (suc i) (omega arith)))
+
+  -- one turn of a loop over both
+  pub eqList-drop : (xs ys : List A) (i : ℕ) (d : A) → i < length xs → i < length ys
+      → eqList eq (drop i xs) (drop i ys) ≡ eq (getD xs i d) (getD ys i d) && eqList eq (drop (i + 1) xs) (drop (i + 1) ys)
+  eqList-drop xs ys i d h k = rw (drop-next xs i d h, drop-next ys i d k)
+
+  -- ---- noneTwice: no two places j < k pass the test
+
+  pub noneTwice-at : (xs : List A) (d : A) → noneTwice eq xs ≡ true → (j k : ℕ) → j < k → k < length xs → eq (getD xs j d) (getD xs k d) ≡ false
+  noneTwice-at [] d h j k l m = absurd (omega arith)
+  noneTwice-at (x ∷ xs) d h j zero l m = absurd (omega arith)
+  noneTwice-at (x ∷ xs) d h zero (suc k) l m =
+      let b = both (not (any (eq x) xs)) (noneTwice eq xs) h in
+      not-true (eq x (getD xs k d)) (all-at (λ y. not (eq x y)) xs d (sym (not-any (eq x) xs) ∙ b .0) k (omega arith))
+  noneTwice-at (x ∷ xs) d h (suc j) (suc k) l m =
+      noneTwice-at xs d (both (not (any (eq x) xs)) (noneTwice eq xs) h .1) j k (omega arith) (omega arith)
+
+  pub at-noneTwice : (xs : List A) (d : A) → ((j k : ℕ) → j < k → k < length xs → eq (getD xs j d) (getD xs k d) ≡ false) → noneTwice eq xs ≡ true
+  at-noneTwice [] d h = refl
+  at-noneTwice (x ∷ xs) d h =
+      both-of (not-any (eq x) xs ∙ at-all (λ y. not (eq x y)) xs d (λ k l. ap not (h 0 (suc k) (omega arith) (omega arith))))
+      (at-noneTwice xs d (λ j k l m. h (suc j) (suc k) (omega arith) (omega arith)))
+
+  -- one pair that passes
+  pub noneTwice-fails : (xs : List A) (d : A) (j k : ℕ) → j < k → k < length xs → eq (getD xs j d) (getD xs k d) ≡ true → noneTwice eq xs ≡ false
+  noneTwice-fails xs d j k l m t = is-false (λ h. clash t (noneTwice-at xs d h j k l m))
+
+  pub noneTwice-distinct : ((x y : A) → x ≡ y → eq x y ≡ true) → (xs : List A) → noneTwice eq xs ≡ true → Distinct xs
+  noneTwice-distinct is [] h = tt
+  noneTwice-distinct is (x ∷ xs) h =
+      let b = both (not (any (eq x) xs)) (noneTwice eq xs) h in
+      (λ m. clash (mem-any (eq x) xs x m (is x x refl)) (not-true (any (eq x) xs) (b .0)), noneTwice-distinct is xs (b .1))
+
+-- ---- Distinct
+
+module _ {A : Type 0} where
+  -- one place for each element
+  pub distinct-at : (xs : List A) (d : A) → Distinct xs → (j k : ℕ) → j < length xs → k < length xs → getD xs j d ≡ getD xs k d → j ≡ k
+  distinct-at [] d h j k l m e = absurd (omega arith)
+  distinct-at (x ∷ xs) d h zero zero l m e = refl
+  distinct-at (x ∷ xs) d h zero (suc k) l m e = absurd (h .0 (Memᴰ·cast e (getD-mem xs k d (omega arith))))
+  distinct-at (x ∷ xs) d h (suc j) zero l m e = absurd (h .0 (Memᴰ·cast (sym e) (getD-mem xs j d (omega arith))))
+  distinct-at (x ∷ xs) d h (suc j) (suc k) l m e = ap suc (distinct-at xs d (h .1) j k (omega arith) (omega arith) e)
+
+  pub at-distinct : (xs : List A) (d : A) → ((j k : ℕ) → j < k → k < length xs → getD xs j d ≡ getD xs k d → ⊥) → Distinct xs
+  at-distinct [] d h = tt
+  at-distinct (x ∷ xs) d h =
+      (λ m. let r = mem-getD xs d m in h 0 (suc (r .0)) (omega arith) (suc-le-suc (r .1)) (sym (r .2)), at-distinct xs d (λ j k l m. h (suc j) (suc k) (omega arith) (omega arith)))
+
+  -- a list without one of its members
+  without : {x : A} (ys : List A) → List·Memᴰ x ys → (r : List A) × (length ys ≡ suc (length r)) × ((y : A) → List·Memᴰ y ys → (y ≡ x) ⊎ List·Memᴰ y r)
+  without [] m = absurd (List·Memᴰ·not-nil m)
+  without {x} (z ∷ ys) m =
+      ⊎-elim (λ e. (ys, refl, λ y k. ⊎-elim (λ h. inl (h ∙ sym e)) inr (List·Memᴰ·cases-cons k)))
+      (λ m′. let w = without ys m′ in
+      (z ∷ w .0, ap suc (w .1), λ y k. ⊎-elim (λ h. inr (List·Memᴰ·head h)) (λ k′. ⊎-elim inl (λ n. inr (List·Memᴰ·tail n)) (w .2 y k′)) (List·Memᴰ·cases-cons k)))
+      (List·Memᴰ·cases-cons m)
+
+  -- a list of different elements, all of them in another, is no longer than that
+  pub pigeon : (xs ys : List A) → Distinct xs → ((x : A) → List·Memᴰ x xs → List·Memᴰ x ys) → length xs ≤ length ys
+  pigeon [] ys d f = zero-le
+  pigeon (x ∷ xs) ys d f =
+      let w = without ys (f x (List·Memᴰ·head refl)) in
+      omega (arith, w .1, pigeon xs (w .0) (d .1) (λ y m. ⊎-elim (λ e. absurd (d .0 (Memᴰ·cast (sym e) m))) (λ k. k) (w .2 y (f y (List·Memᴰ·tail m)))))
+
+-- ---- numbersFrom, oneTo
+
+pub numbers-length : (from many : ℕ) → length (numbersFrom from many) ≡ many
+numbers-length from zero = refl
+numbers-length from (suc many) = ap suc (numbers-length (suc from) many)
+
+pub numbers-getD : (from many i d : ℕ) → i < many → getD (numbersFrom from many) i d ≡ from + i
+numbers-getD from zero i d h = absurd (omega arith)
+numbers-getD from (suc many) zero d h = omega arith
+numbers-getD from (suc many) (suc i) d h = numbers-getD (suc from) many i d (omega arith) ∙ omega arith
+
+-- from + j is one for each j < many, and no other number is
+pub numbers-mem : (from many j : ℕ) → j < many → List·Memᴰ (from + j) (numbersFrom from many)
+numbers-mem from many j h = Memᴰ·cast (sym (numbers-getD from many j 0 h)) (getD-mem (numbersFrom from many) j 0 (rw numbers-length h))
+
+pub mem-numbers : (from many x : ℕ) → List·Memᴰ x (numbersFrom from many) → (from ≤ x) × (x < from + many)
+mem-numbers from many x m =
+    let r = mem-getD (numbersFrom from many) 0 m in
+    let l : r .0 < many = rw numbers-length at (r .1) in
+    let e : x ≡ from + r .0 = sym (r .2) ∙ numbers-getD from many (r .0) 0 l in
+    omega arith
+
+pub oneTo-mem : (n x : ℕ) → 1 ≤ x → x ≤ n → List·Memᴰ x (oneTo n)
+oneTo-mem n x h k = let e : x ≡ 1 + (x - 1) = omega arith in Memᴰ·cast e (numbers-mem 1 n (x - 1) (omega arith))
+
+pub mem-oneTo : (n x : ℕ) → List·Memᴰ x (oneTo n) → (1 ≤ x) × (x ≤ n)
+mem-oneTo n x m = omega (arith, mem-numbers 1 n x m)
+
+-- one number more, at the end
+numbers-suc : (from many : ℕ) → numbersFrom from (suc many) ≡ numbersFrom from many ++ ((from + many) ∷ [])
+numbers-suc from zero = let e : from + 0 ≡ from = omega arith in rw e
+numbers-suc from (suc many) = let e : suc from + many ≡ from + suc many = omega arith in ap (λ (l : List ℕ). from ∷ l) (numbers-suc (suc from) many ∙ rw e)
+
+pub numbers-next : (from many : ℕ) → numbersFrom from (many + 1) ≡ numbersFrom from many ++ ((from + many) ∷ [])
+numbers-next from many = rw add-one (numbers-suc from many)
+
+pub numbers-distinct : (from many : ℕ) → Distinct (numbersFrom from many)
+numbers-distinct from zero = tt
+numbers-distinct from (suc many) = (λ m. absurd (omega (arith, mem-numbers (suc from) many from m)), numbers-distinct (suc from) many)

@@ -8,6 +8,7 @@ use lib.IntN.{ℤ, pos, negℤ, _+ℤ_}
 use lib.Signed.{leZ, ltZ, _≤ℤ_, _<ℤ_}
 use Rattle.laws.specs.Integers.{up, dn, eqℤ}
 use Rattle.laws.proofs.Linear.{signed, sum, neg}
+use Rattle.laws.proofs.Tests.{by-test}
 
 pub ≤ℤ-trans : {a b c : ℤ} → a ≤ℤ b → b ≤ℤ c → a ≤ℤ c
 ≤ℤ-trans h k = omega (arith, signed)
@@ -15,13 +16,9 @@ pub ≤ℤ-trans : {a b c : ℤ} → a ≤ℤ b → b ≤ℤ c → a ≤ℤ c
 pub ≤ℤ-antisym : {a b : ℤ} → a ≤ℤ b → b ≤ℤ a → a ≡ b
 ≤ℤ-antisym h k = omega (arith, signed)
 
-total-by : (a b : ℤ) (t : Bool) → leZ a b ≡ t → (a ≤ℤ b) ⊎ (b <ℤ a)
-total-by a b true e = inl (omega (arith, signed))
-total-by a b false e = inr (omega (arith, signed))
-
 -- total, in the form that decides
 pub ≤ℤ-or-> : (a b : ℤ) → (a ≤ℤ b) ⊎ (b <ℤ a)
-≤ℤ-or-> a b = total-by a b (leZ a b) refl
+≤ℤ-or-> a b = by-test (leZ a b) (λ e. inl (omega (arith, signed))) (λ e. inr (omega (arith, signed)))
 
 pub ≤ℤ-total : (a b : ℤ) → (a ≤ℤ b) ⊎ (b ≤ℤ a)
 ≤ℤ-total a b = ⊎-elim (λ h. inl h) (λ h. inr (omega (arith, signed))) (≤ℤ-or-> a b)
@@ -36,11 +33,7 @@ pub ≤ℤ-<ℤ-trans : {a b c : ℤ} → a ≤ℤ b → b <ℤ c → a <ℤ c
 ≤ℤ-<ℤ-trans h k = omega (arith, signed)
 
 pub not-≤ℤ : {a b : ℤ} → (a ≤ℤ b → ⊥) → b <ℤ a
-not-≤ℤ {a} {b} f = by (≤ℤ-or-> a b)
-  where
-    by : (a ≤ℤ b) ⊎ (b <ℤ a) → b <ℤ a
-    by (inl h) = absurd (f h)
-    by (inr h) = h
+not-≤ℤ {a} {b} f = ⊎-elim (λ h. absurd (f h)) (λ h. h) (≤ℤ-or-> a b)
 
 -- a < b is a + 1 ≤ b
 pub <ℤ-step : {a b : ℤ} → a <ℤ b → (a +ℤ pos 1) ≤ℤ b

@@ -8,7 +8,7 @@ use lib.Dec.{ltb}
 use lib.IntN.{ℤ, _+ℤ_}
 use lib.Signed.{ltZ}
 use Rattle.laws.proofs.Linear.{signed, sum}
-use Rattle.laws.proofs.Tests.{by-test}
+use Rattle.laws.proofs.Tests.{by-test, same-test}
 
 -- `r a b`: a comes before b
 pub record Weak {A : Type 0} (r : A → A → Bool) : Type 0 where
@@ -38,13 +38,9 @@ pub more-weak : Weak more
 unfolding more
 more-weak = record { asym = λ a b e. omega (arith, signed); ntrans = λ a b c e f. omega (arith, signed) }
 
-ltZ-by : (g a b : ℤ) (t : Bool) → ltZ a b ≡ t → ltZ (a +ℤ g) (b +ℤ g) ≡ t
-ltZ-by g a b true e = omega (arith, signed, sum a g, sum b g)
-ltZ-by g a b false e = omega (arith, signed, sum a g, sum b g)
-
 -- the same number added on both sides
 pub ltZ-add : (g a b : ℤ) → ltZ (a +ℤ g) (b +ℤ g) ≡ ltZ a b
-ltZ-add g a b = ltZ-by g a b (ltZ a b) refl
+ltZ-add g a b = same-test (λ e. omega (arith, signed, sum a g, sum b g)) (λ e. omega (arith, signed, sum a g, sum b g))
 
 -- ---- one test after another: `rest` decides where neither comes first
 
