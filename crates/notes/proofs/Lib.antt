@@ -5,3 +5,5 @@ pub mod Chains
 pub mod Valid
 pub mod Scores
 pub mod Steps
+pub mod Cover
+pub mod Ranges
