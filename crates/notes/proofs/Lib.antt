@@ -7,3 +7,5 @@ pub mod Scores
 pub mod Steps
 pub mod Cover
 pub mod Ranges
+pub mod Bounds
+pub mod Instance

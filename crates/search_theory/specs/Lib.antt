@@ -1,3 +1,4 @@
 pub mod Search
 pub mod Loops
 pub mod Statements
+pub mod Orders

@@ -9,7 +9,7 @@ use lib.Dec.{eqb, leb, ltb}
 use lib.IntN.{ℤ, pos, _+ℤ_}
 use lib.ListN.{length, getD, drop}
 use Rattle.laws.specs.Lists.{keep}
-use Rattle.search_theory.specs.Search.{Hypothesis, Problem, St, first, extend, add, setOf, upto, run, closed}
+use Rattle.search_theory.specs.Search.{Problem, St, first, extend, add, setOf, upto, closed}
 use Rattle.search_theory.specs.Loops.{grow, sweep}
 
 module _ (P : Problem) where

@@ -1,0 +1,16 @@
+pub mod General
+pub mod Highest
+pub mod Add
+pub mod Loops
+pub mod Sound
+pub mod Longer
+pub mod Sets
+pub mod Optimal
+pub mod Count
+pub mod Store
+pub mod Beams
+pub mod ByScore
+pub mod Lexical
+pub mod Array
+pub mod Trace
+pub mod Theorems
