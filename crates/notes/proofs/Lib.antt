@@ -9,3 +9,4 @@ pub mod Cover
 pub mod Ranges
 pub mod Bounds
 pub mod Instance
+pub mod Answers
