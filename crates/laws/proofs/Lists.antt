@@ -1,14 +1,13 @@
 -- The laws of the functions on lists that specs/Lists.antt defines, over elements of any type (those of integers are in Sums.antt). `d` is the default of `getD`, any element.
 use mathlib.Core.Path.{_≡_, refl, sym, ap, _∙_, subst}
-use mathlib.Core.Bool.{Bool, true, false, not, cond, _&&_, _||_, and-true, and-assoc}
+use mathlib.Core.Bool.{Bool, true, false, not, _&&_, _||_, and-true, and-assoc}
 use mathlib.Core.Logic.{_⊎_, inl, inr, ⊎-elim}
 use mathlib.Core.List.{List, [], _∷_, _++_, map, map-append, append-assoc, List·Memᴰ, List·Memᴰ·head, List·Memᴰ·tail, List·Memᴰ·not-nil, List·Memᴰ·cases-cons, List·Memᴰ·append-cases, Memᴰ·append-left, Memᴰ·append-right, Memᴰ·cast}
 use Prim.Native.Nat.{ℕ, zero, suc, _+_, _-_, _≤_, _<_, zero-le, suc-le-suc}
-use native.Mathlib.Nat.{le-trans, le-of-eq}
 use native.Mathlib.Numerals.{add-one}
 use native.Mathlib.Omega.{arith}
 use borrow.Author.Tests.{not-true, not-false}
-use lib.ListN.{length, getD, take, drop, length-append}
+use lib.ListN.{length, getD, take, drop}
 use lib.Seq.{take-suc, drop-cons}
 use Rattle.laws.specs.Lists.{all, any, keep, count, concat, eqList, noneTwice, Distinct, numbersFrom, oneTo}
 use Rattle.laws.proofs.Tests.{if-ind, by-test, both, both-of, one-of, clash, is-false}
@@ -221,11 +220,17 @@ module _ {A : Type 0} (eq : A → A → Bool) where
   pub noneTwice-fails : (xs : List A) (d : A) (j k : ℕ) → j < k → k < length xs → eq (getD xs j d) (getD xs k d) ≡ true → noneTwice eq xs ≡ false
   noneTwice-fails xs d j k l m t = is-false (λ h. clash t (noneTwice-at xs d h j k l m))
 
+  -- with a test that tells equal elements, and only those, it is `Distinct`
   pub noneTwice-distinct : ((x y : A) → x ≡ y → eq x y ≡ true) → (xs : List A) → noneTwice eq xs ≡ true → Distinct xs
   noneTwice-distinct is [] h = tt
   noneTwice-distinct is (x ∷ xs) h =
       let b = both (not (any (eq x) xs)) (noneTwice eq xs) h in
       (λ m. clash (mem-any (eq x) xs x m (is x x refl)) (not-true (any (eq x) xs) (b .0)), noneTwice-distinct is xs (b .1))
+
+  pub distinct-noneTwice : ((x y : A) → eq x y ≡ true → x ≡ y) → (xs : List A) → Distinct xs → noneTwice eq xs ≡ true
+  distinct-noneTwice is [] h = refl
+  distinct-noneTwice is (x ∷ xs) h =
+      both-of (ap not (is-false (λ t. let r = any-mem (eq x) xs t in h .0 (Memᴰ·cast (is x (r .0) (r .2)) (r .1))))) (distinct-noneTwice is xs (h .1))
 
 -- ---- Distinct
 
@@ -271,21 +276,21 @@ numbers-getD from (suc many) zero d h = omega arith
 numbers-getD from (suc many) (suc i) d h = numbers-getD (suc from) many i d (omega arith) ∙ omega arith
 
 -- from + j is one for each j < many, and no other number is
-pub numbers-mem : (from many j : ℕ) → j < many → List·Memᴰ (from + j) (numbersFrom from many)
-numbers-mem from many j h = Memᴰ·cast (sym (numbers-getD from many j 0 h)) (getD-mem (numbersFrom from many) j 0 (rw numbers-length h))
+pub mem-numbers : (from many j : ℕ) → j < many → List·Memᴰ (from + j) (numbersFrom from many)
+mem-numbers from many j h = Memᴰ·cast (sym (numbers-getD from many j 0 h)) (getD-mem (numbersFrom from many) j 0 (rw numbers-length h))
 
-pub mem-numbers : (from many x : ℕ) → List·Memᴰ x (numbersFrom from many) → (from ≤ x) × (x < from + many)
-mem-numbers from many x m =
+pub numbers-mem : (from many x : ℕ) → List·Memᴰ x (numbersFrom from many) → (from ≤ x) × (x < from + many)
+numbers-mem from many x m =
     let r = mem-getD (numbersFrom from many) 0 m in
     let l : r .0 < many = rw numbers-length at (r .1) in
     let e : x ≡ from + r .0 = sym (r .2) ∙ numbers-getD from many (r .0) 0 l in
     omega arith
 
-pub oneTo-mem : (n x : ℕ) → 1 ≤ x → x ≤ n → List·Memᴰ x (oneTo n)
-oneTo-mem n x h k = let e : x ≡ 1 + (x - 1) = omega arith in Memᴰ·cast e (numbers-mem 1 n (x - 1) (omega arith))
+pub mem-oneTo : (n x : ℕ) → 1 ≤ x → x ≤ n → List·Memᴰ x (oneTo n)
+mem-oneTo n x h k = let e : x ≡ 1 + (x - 1) = omega arith in Memᴰ·cast e (mem-numbers 1 n (x - 1) (omega arith))
 
-pub mem-oneTo : (n x : ℕ) → List·Memᴰ x (oneTo n) → (1 ≤ x) × (x ≤ n)
-mem-oneTo n x m = omega (arith, mem-numbers 1 n x m)
+pub oneTo-mem : (n x : ℕ) → List·Memᴰ x (oneTo n) → (1 ≤ x) × (x ≤ n)
+oneTo-mem n x m = omega (arith, numbers-mem 1 n x m)
 
 -- one number more, at the end
 numbers-suc : (from many : ℕ) → numbersFrom from (suc many) ≡ numbersFrom from many ++ ((from + many) ∷ [])
@@ -297,4 +302,4 @@ numbers-next from many = rw add-one (numbers-suc from many)
 
 pub numbers-distinct : (from many : ℕ) → Distinct (numbersFrom from many)
 numbers-distinct from zero = tt
-numbers-distinct from (suc many) = (λ m. absurd (omega (arith, mem-numbers (suc from) many from m)), numbers-distinct (suc from) many)
+numbers-distinct from (suc many) = (λ m. absurd (omega (arith, numbers-mem (suc from) many from m)), numbers-distinct (suc from) many)

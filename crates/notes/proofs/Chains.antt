@@ -1,7 +1,7 @@
 -- Chains of questions: what it says that none refuses, or that one does.
-use Prim.Native.Nat.{ℕ, zero, suc}
+use Prim.Native.Nat.{ℕ, zero, suc, _≤_}
 use native.Mathlib.Omega.{arith}
-use mathlib.Core.Path.{_≡_, refl}
+use mathlib.Core.Path.{_≡_, refl, ap}
 use mathlib.Core.Bool.{Bool, true, false, _&&_}
 use mathlib.Core.Logic.{_↔_}
 use Rattle.notes.specs.Questions.{_unless_, _orelse_}
@@ -21,9 +21,9 @@ pub test-passes : (k : ℕ) (test : Bool) → suc k unless test ≡ 0 → test �
 test-passes k true e = refl
 test-passes k false e = absurd (omega arith)
 
-pub test-fails : (k : ℕ) (test : Bool) → suc k unless test ≡ suc k → test ≡ false
-test-fails k true e = absurd (omega arith)
-test-fails k false e = refl
+pub test-fails : (k j : ℕ) (test : Bool) → k unless test ≡ suc j → test ≡ false
+test-fails k j true e = absurd (omega arith)
+test-fails k j false e = refl
 
 -- a question before others, and the last one: no refusal exactly where the tests pass
 pub asked : (k : ℕ) (test others : Bool) (rest : ℕ) → (rest ≡ 0) ↔ (others ≡ true) → (suc k unless test orelse rest ≡ 0) ↔ (test && others ≡ true)
@@ -39,14 +39,14 @@ pub skip : (k m j : ℕ) → (k ≡ j → ⊥) → k orelse m ≡ j → m ≡ j
 skip zero m j h e = e
 skip (suc k) m j h e = absurd (h e)
 
--- a chain refuses with no number that neither part has
-pub chain-other : (k m j : ℕ) → (k ≡ j → ⊥) → (m ≡ j → ⊥) → k orelse m ≡ j → ⊥
-chain-other zero m j g h e = h e
-chain-other (suc k) m j g h e = g e
+-- a chain's number is one of its questions'
+pub chain-to : (k m n : ℕ) → k ≤ n → m ≤ n → (k orelse m) ≤ n
+chain-to zero m n g h = h
+chain-to (suc k) m n g h = g
 
-pub test-other : (k : ℕ) (test : Bool) (j : ℕ) → (k ≡ suc j → ⊥) → k unless test ≡ suc j → ⊥
-test-other k true j h e = omega arith
-test-other k false j h e = h e
+pub test-to : (k : ℕ) (test : Bool) (n : ℕ) → k ≤ n → (k unless test) ≤ n
+test-to k true n h = omega arith
+test-to k false n h = h
 
 -- ---- replies
 
@@ -66,3 +66,7 @@ module _ {A : Type 0} where
   pub reply-done : (k : ℕ) (a : A) → k ≡ 0 → reply k a ≡ done a
   reply-done zero a e = refl
   reply-done (suc k) a e = absurd (omega arith)
+
+  pub reply-refused : (k m : ℕ) (a : A) → k ≡ suc m → reply k a ≡ refused (suc m)
+  reply-refused zero m a e = absurd (omega arith)
+  reply-refused (suc k) m a e = ap {B = Reply A} refused e

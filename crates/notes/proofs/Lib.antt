@@ -10,3 +10,5 @@ pub mod Ranges
 pub mod Bounds
 pub mod Instance
 pub mod Answers
+pub mod Widths
+pub mod Demands

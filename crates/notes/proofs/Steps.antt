@@ -10,7 +10,7 @@ use lib.ListN.{length, getD}
 use lib.Seq.{slice, length-slice}
 use Rattle.laws.specs.Lists.{keep, concat, eqList, oneTo}
 use Rattle.laws.proofs.Tests.{both}
-use Rattle.laws.proofs.Lists.{mem-keep, keep-mem, mem-concat, concat-mem, oneTo-mem, eqList-length}
+use Rattle.laws.proofs.Lists.{mem-keep, keep-mem, mem-concat, concat-mem, mem-oneTo, eqList-length}
 use Rattle.notes.specs.Questions.{within}
 use Rattle.notes.specs.Book.{Book, Entry}
 use Rattle.notes.specs.Direction.{wordCount}
@@ -66,9 +66,9 @@ module _ (book : Book) (direction : List ℕ) (step : Step) where
   fits-listed e =
       let h = fits-facts book direction step e in
       mem-concat (map at (oneTo (length direction)))
-      (Memᴰ·map at (oneTo-mem (length direction) (step .first) (h .first-from) (let a = h .first-to in let b = h .last-to in omega arith)))
+      (Memᴰ·map at (mem-oneTo (length direction) (step .first) (h .first-from) (let a = h .first-to in let b = h .last-to in omega arith)))
       (mem-keep (fits book direction) _
-      (Memᴰ·cast (same-step h) (Memᴰ·map (stepAt book (step .first)) (oneTo-mem (length (book .entries)) (step .entry) (h .entry-from) (h .entry-to)))) e)
+      (Memᴰ·cast (same-step h) (Memᴰ·map (stepAt book (step .first)) (mem-oneTo (length (book .entries)) (step .entry) (h .entry-from) (h .entry-to)))) e)
 
   pub listed-fits : List·Memᴰ step (fittingSteps book direction) → fits book direction step ≡ true
   unfolding fittingSteps

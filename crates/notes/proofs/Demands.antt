@@ -1,0 +1,280 @@
+-- The demands on the replies, in the words of document 01: what scoring and decoding report, and what each refusal says.
+use Prim.Native.Nat.{ℕ, zero, suc, _+_, _*_, _/_, _≤_, _<_}
+use native.Mathlib.Omega.{arith}
+use mathlib.Core.Path.{_≡_, refl, sym, _∙_, ap, subst}
+use mathlib.Core.Logic.{_↔_, _⊎_, inl, inr, ⊎-elim}
+use mathlib.Core.Bool.{Bool, true, false, not, cond, _&&_, _||_, true≢false, false≢true}
+use mathlib.Core.List.{List, [], _∷_, map, List·Memᴰ, List·Memᴰ·head}
+use mathlib.Core.Option.{Option, none, some}
+use borrow.Author.Tests.{leb-true, leb-false, le-leb, lt-leb, not-true, not-false}
+use lib.Dec.{leb}
+use lib.IntN.{ℤ, pos, negsuc}
+use lib.Signed.{leZ, _≤ℤ_}
+use lib.ListN.{length, length-map}
+use Rattle.laws.specs.Integers.{Within}
+use Rattle.laws.specs.Lists.{all, isEmpty}
+use Rattle.laws.proofs.Tests.{by-test, both}
+use Rattle.laws.proofs.Bounds.{within-mono}
+use Rattle.notes.specs.Questions.{_unless_, _orelse_, within}
+use Rattle.notes.specs.Book.{Book, bookOf, bookRefusal, linesRefusal, loadedLines, isWhole, isOneBFirst, isInRange, isNotTooLong, isNoTripleTwice, isWord}
+use Rattle.notes.specs.Direction.{wordCount, directionRefusal, numbersRefusal}
+use Rattle.notes.specs.Derivation.{IsDerivation, isValid, targetWords, scoreOf}
+use Rattle.notes.specs.State.{Key, Hyp, start, wordsCovered, gainBound, scoreBound}
+use Rattle.notes.specs.Search.{isOff, entered, lastSet, answer}
+use Rattle.notes.specs.Reply.{Reply, refused, done, reply, Lent, Outcome, stepsRefusal, proposalRefusal, scoreProposal, beforeSearch, afterSearch, decodeRefusal, answerScore, decode}
+use Rattle.notes.specs.declared.Step.{Step}
+use Rattle.notes.proofs.Chains.{first-passes, rest-passes, test-passes, test-fails, skip, chain-to, test-to, done-passes, done-is, refused-is, reply-done, reply-refused}
+use Rattle.notes.proofs.Valid.{proposal-valid}
+use Rattle.notes.proofs.Ranges.{Ranged, loaded-ranged}
+use Rattle.notes.proofs.Answers.{answer-last, answer-derives, answer-none, answer-best, none-valid, last-valid, covered-to, entered-bound, valid-bound, last-entered}
+use Rattle.notes.proofs.Widths.{wide-entered, wide-answer, wide-last}
+
+-- ════ the questions that come before
+
+lines-to : (lines : List (List ℤ)) → linesRefusal lines ≤ 6
+unfolding linesRefusal
+lines-to lines =
+    chain-to _ _ 6 (test-to 2 (all isWhole lines) 6 (omega arith))
+    (chain-to _ _ 6 (test-to 3 (isOneBFirst lines) 6 (omega arith))
+    (chain-to _ _ 6 (test-to 4 (all isInRange lines) 6 (omega arith))
+    (chain-to _ _ 6 (test-to 5 (isNotTooLong lines) 6 (omega arith)) (test-to 6 (isNoTripleTwice lines) 6 (omega arith)))))
+
+-- no question before the search has a number above 12
+before-to : (loaded : List ℤ) (direction : List ℕ) (width : ℤ) (lent : Lent) → beforeSearch loaded direction width lent ≤ 12
+unfolding beforeSearch bookRefusal directionRefusal numbersRefusal
+before-to loaded direction width lent =
+    let book-to : linesRefusal (loadedLines loaded) ≤ 12 = (let h = lines-to (loadedLines loaded) in omega arith) in
+    chain-to _ _ 12 book-to
+    (chain-to _ _ 12 (chain-to _ _ 12 (test-to 9 (within 1 32 (length (map pos direction))) 12 (omega arith)) (test-to 10 (all isWord (map pos direction)) 12 (omega arith)))
+    (chain-to _ _ 12 (test-to 11 (leZ (negsuc 0) width) 12 (omega arith))
+    (test-to 12 (leb (wordCount direction) (lent .steps) && leb (8 * wordCount direction) (lent .words)) 12 (omega arith))))
+
+-- a direction that 9 passes has at most 32 words
+direction-to : (direction : List ℕ) → directionRefusal direction ≡ 0 → wordCount direction ≤ 32
+unfolding directionRefusal numbersRefusal wordCount
+direction-to direction e =
+    let t = test-passes 8 (within 1 32 (length (map pos direction))) (first-passes (9 unless within 1 32 (length (map pos direction))) _ e) in
+    let h : length (map pos direction) ≤ 32 = leb-true _ _ (both (leb 1 (length (map pos direction))) _ t .1) in
+    let m : length (map pos direction) ≡ length direction = length-map direction pos in
+    omega arith
+
+-- 13, 14 and 15 by what is asked: pruning is off, the store holds the states, the last set is empty
+abbrev after : Bool → Bool → Bool → ℕ
+after off fits empty = 13 unless fits orelse 14 unless (not off || not empty) orelse 15 unless not empty
+
+-- two searches that enter the same states and have the same answer differ at most in 15 for 14
+wide-by : (before : ℕ) (fits₁ fits₂ empty₁ empty₂ : Bool) (o₁ o₂ : Outcome) → (before ≡ 0 → (fits₁ ≡ fits₂) × (empty₁ ≡ empty₂) × (o₁ ≡ o₂))
+    → (reply (before orelse after false fits₁ empty₁) o₁ ≡ reply (before orelse after true fits₂ empty₂) o₂)
+    ⊎ ((reply (before orelse after false fits₁ empty₁) o₁ ≡ refused 15) × (reply (before orelse after true fits₂ empty₂) o₂ ≡ refused 14))
+wide-by (suc k) fits₁ fits₂ empty₁ empty₂ o₁ o₂ same = inl refl
+wide-by zero fits₁ fits₂ empty₁ empty₂ o₁ o₂ same = let e = same refl in rw (e .0, e .1, e .2) (compare fits₂ empty₂ o₂)
+  where
+    compare : (s m : Bool) (o : Outcome) → (reply (after false s m) o ≡ reply (after true s m) o) ⊎ ((reply (after false s m) o ≡ refused 15) × (reply (after true s m) o ≡ refused 14))
+    compare true true o = inr (refl, refl)
+    compare true false o = inl refl
+    compare false m o = inl refl
+
+module _ (loaded : List ℤ) (direction : List ℕ) where
+  abbrev book : Book
+  book = bookOf loaded
+
+  -- ════ scoring: "a proposed list is found valid exactly when the notes say so"
+
+  -- what is scored is a valid derivation, and the score is its score
+  pub scored-valid : (steps : List Step) (z : ℤ) → scoreProposal loaded direction steps ≡ done z → IsDerivation book direction z steps (targetWords book steps)
+  unfolding scoreProposal proposalRefusal
+  scored-valid steps z e =
+      let p : proposalRefusal loaded direction steps ≡ 0 = done-passes (proposalRefusal loaded direction steps) (scoreOf book steps) z e in
+      record {
+        steps-valid = proposal-valid book direction steps .0 (rest-passes (directionRefusal direction) _ (rest-passes (bookRefusal loaded) _ p));
+        steps-score = done-is (proposalRefusal loaded direction steps) (scoreOf book steps) z e;
+        steps-words = refl;
+      }
+
+  -- and every valid derivation is scored, where the book and the direction pass
+  pub valid-scored : bookRefusal loaded ≡ 0 → directionRefusal direction ≡ 0 → (steps : List Step) → isValid book direction steps ≡ true
+      → scoreProposal loaded direction steps ≡ done (scoreOf book steps)
+  unfolding scoreProposal proposalRefusal
+  valid-scored b d steps v = rw (b, d, proposal-valid book direction steps .1 v)
+
+  -- ════ decoding, with any width
+
+  module _ (width : ℤ) (lent : Lent) where
+    -- what holds where an answer is given
+    pub record Answered (a : Outcome) : Type 0 where
+      pub before : beforeSearch loaded direction width lent ≡ 0
+      pub room : length (entered book direction width) ≤ lent .store / 8
+      pub state : Hyp
+      pub found : answer book direction width ≡ some state
+      pub score-is : a .score ≡ state .score
+      pub states-are : a .states ≡ length (entered book direction width)
+
+    some-or-none : (o : Option Hyp) → (o ≡ none) ⊎ ((t : Hyp) × (o ≡ some t))
+    some-or-none none = inl refl
+    some-or-none (some t) = inr (t, refl)
+
+    reached : afterSearch book direction width lent ≡ 0 → isEmpty (lastSet book direction width) ≡ false
+    unfolding afterSearch
+    reached e =
+        not-true (isEmpty (lastSet book direction width))
+        (test-passes 14 (not (isEmpty (lastSet book direction width)))
+        (rest-passes (14 unless (not (isOff width) || not (isEmpty (lastSet book direction width)))) _
+        (rest-passes (13 unless leb (length (entered book direction width)) (lent .store / 8)) _ e)))
+
+    not-both : (l : List Hyp) → isEmpty l ≡ false → l ≡ [] → ⊥
+    not-both [] e z = true≢false e
+    not-both (x ∷ l) e z = let y : isEmpty (x ∷ l) ≡ true = ap isEmpty z in false≢true y
+
+    pub answered : (a : Outcome) → decode loaded direction width lent ≡ done a → Answered a
+    unfolding decode decodeRefusal afterSearch
+    answered a e =
+        let k = decodeRefusal loaded direction width lent in
+        let p : decodeRefusal loaded direction width lent ≡ 0 = done-passes k _ a e in
+        let b = first-passes (beforeSearch loaded direction width lent) _ p in
+        let s = rest-passes (beforeSearch loaded direction width lent) _ p in
+        let is : record { score = answerScore (answer book direction width); states = length (entered book direction width) } ≡ a = done-is k _ a e in
+        let r : length (entered book direction width) ≤ lent .store / 8 = leb-true _ _ (test-passes 12 _ (first-passes (13 unless leb (length (entered book direction width)) (lent .store / 8)) _ s)) in
+        ⊎-elim
+        (λ z. absurd (not-both (lastSet book direction width) (reached s) (answer-none book direction width .0 z)))
+        (λ t. record {
+          before = b;
+          room = r;
+          state = t .0;
+          found = t .1;
+          score-is = ap (λ (o : Outcome). o .score) (sym is) ∙ ap answerScore (t .1);
+          states-are = ap (λ (o : Outcome). o .states) (sym is);
+        })
+        (some-or-none (answer book direction width))
+
+    -- "valid, exact": some valid derivation has the score reported
+    pub decode-derives : (a : Outcome) → decode loaded direction width lent ≡ done a
+        → (steps : List Step) × IsDerivation book direction (a .score) steps (targetWords book steps)
+    decode-derives a e =
+        let r = answered a e in
+        (r .state .steps, subst (λ (z : ℤ). IsDerivation book direction z (r .state .steps) (targetWords book (r .state .steps))) (sym (r .score-is)) (answer-derives book direction width (r .state) (r .found)))
+
+    -- "and the best of the last set": no state of it has a higher score
+    pub decode-last : (a : Outcome) → decode loaded direction width lent ≡ done a → (q : Hyp) → List·Memᴰ q (lastSet book direction width) → q .score ≤ℤ a .score
+    decode-last a e q m =
+        let r = answered a e in
+        subst (λ (z : ℤ). q .score ≤ℤ z) (sym (r .score-is)) (answer-last book direction width (r .state) (r .found) .none-higher q m)
+
+    -- the number of states is that of the states entered
+    pub decode-states : (a : Outcome) → decode loaded direction width lent ≡ done a → a .states ≡ length (entered book direction width)
+    decode-states a e = answered a e .states-are
+
+    -- "No score passes .. 298,240,000 on either side of 0."
+    pub decode-bound : (a : Outcome) → decode loaded direction width lent ≡ done a → Within scoreBound (a .score)
+    unfolding beforeSearch
+    decode-bound a e =
+        let r = answered a e in
+        let d = decode-derives a e in
+        let b = first-passes (bookRefusal loaded) _ (r .before) in
+        let n = direction-to direction (first-passes (directionRefusal direction) _ (rest-passes (bookRefusal loaded) _ (r .before))) in
+        subst (Within scoreBound) (d .1 .steps-score) (within-mono (omega arith) (valid-bound book direction width (loaded-ranged loaded b) (d .0) (d .1 .steps-valid)))
+
+    -- "13 only when the store is too small for the states entered", and always then
+    pub decode-full : beforeSearch loaded direction width lent ≡ 0 → (decode loaded direction width lent ≡ refused 13) ↔ (lent .store / 8 < length (entered book direction width))
+    unfolding decode decodeRefusal afterSearch
+    decode-full b = (
+      λ e. by-test (leb (length (entered book direction width)) (lent .store / 8))
+          (λ t. absurd (later t (refused-is (decodeRefusal loaded direction width lent) 13 _ e)))
+          (λ f. leb-false _ _ f),
+      λ h. reply-refused (decodeRefusal loaded direction width lent) 12 _ (rw (b, lt-leb _ _ h)),
+    )
+      where
+        later : leb (length (entered book direction width)) (lent .store / 8) ≡ true → decodeRefusal loaded direction width lent ≡ 13 → ⊥
+        later t e = last-two (isOff width) (isEmpty (lastSet book direction width)) (rw (b, t) at e)
+          where
+            last-two : (o m : Bool) → 14 unless (not o || not m) orelse 15 unless not m ≡ 13 → ⊥
+            last-two true true h = omega arith
+            last-two true false h = omega arith
+            last-two false true h = omega arith
+            last-two false false h = omega arith
+
+    -- a store that holds the states entered never gives 13
+    pub never-full : length (entered book direction width) ≤ lent .store / 8 → decode loaded direction width lent ≡ refused 13 → ⊥
+    unfolding decode decodeRefusal
+    never-full h e =
+        let k = refused-is (decodeRefusal loaded direction width lent) 13 _ e in
+        by-zero (beforeSearch loaded direction width lent) refl k
+      where
+        by-zero : (j : ℕ) → beforeSearch loaded direction width lent ≡ j → j orelse afterSearch book direction width lent ≡ 13 → ⊥
+        by-zero zero z k = let l = decode-full z .0 e in omega arith
+        by-zero (suc j) z k = let t = before-to loaded direction width lent in omega arith
+
+  -- ════ decoding with pruning off
+
+  module _ (lent : Lent) where
+    -- "no valid derivation scores higher", of however many steps
+    pub decode-best : (a : Outcome) → decode loaded direction (negsuc 0) lent ≡ done a → (steps : List Step) → isValid book direction steps ≡ true → scoreOf book steps ≤ℤ a .score
+    decode-best a e steps v =
+        let r = answered (negsuc 0) lent a e in
+        subst (λ (z : ℤ). scoreOf book steps ≤ℤ z) (sym (r .score-is)) (answer-best book direction (r .state) (r .found) steps v)
+
+    empty-is : (l : List Hyp) → isEmpty l ≡ true → l ≡ []
+    empty-is [] e = refl
+    empty-is (x ∷ l) e = absurd (false≢true e)
+
+    -- "14 means that no valid derivation exists"
+    pub decode-none : decode loaded direction (negsuc 0) lent ≡ refused 14 → (steps : List Step) → isValid book direction steps ≡ true → ⊥
+    unfolding decode decodeRefusal afterSearch
+    decode-none e =
+        let k = refused-is (decodeRefusal loaded direction (negsuc 0) lent) 14 _ e in
+        let a = skip (beforeSearch loaded direction (negsuc 0) lent) _ 14 (λ z. let t = before-to loaded direction (negsuc 0) lent in omega arith) k in
+        let c = skip (13 unless leb (length (entered book direction (negsuc 0))) (lent .store / 8)) _ 14 (λ z. let t = test-to 13 (leb (length (entered book direction (negsuc 0))) (lent .store / 8)) 13 (omega arith) in omega arith) a in
+        none-valid book direction (answer-none book direction (negsuc 0) .1 (empty-is (lastSet book direction (negsuc 0)) (was-empty (isEmpty (lastSet book direction (negsuc 0))) c)))
+      where
+        was-empty : (m : Bool) → 14 unless not m orelse 15 unless not m ≡ 14 → m ≡ true
+        was-empty true h = refl
+        was-empty false h = absurd (omega arith)
+
+    -- and where no valid derivation exists, 14 is given, once the questions before it pass
+    pub none-decode : beforeSearch loaded direction (negsuc 0) lent ≡ 0 → length (entered book direction (negsuc 0)) ≤ lent .store / 8
+        → ((steps : List Step) → isValid book direction steps ≡ true → ⊥) → decode loaded direction (negsuc 0) lent ≡ refused 14
+    unfolding decode decodeRefusal afterSearch
+    none-decode b h none-is =
+        reply-refused (decodeRefusal loaded direction (negsuc 0) lent) 13 _ (rw (b, le-leb _ _ h, last-is-empty))
+      where
+        last-is-empty : isEmpty (lastSet book direction (negsuc 0)) ≡ true
+        last-is-empty = go (lastSet book direction (negsuc 0)) (λ q m. none-is (q .steps) (last-valid book direction (negsuc 0) q m))
+          where
+            go : (l : List Hyp) → ((q : Hyp) → List·Memᴰ q l → ⊥) → isEmpty l ≡ true
+            go [] f = refl
+            go (q ∷ l) f = absurd (f q (List·Memᴰ·head refl))
+
+  -- ════ decoding with a width
+
+  -- "Giving 14 when pruning emptied the last set" is a trap: with a width 14 is never given
+  pub width-never-14 : (β : ℕ) (lent : Lent) → decode loaded direction (pos β) lent ≡ refused 14 → ⊥
+  unfolding decode decodeRefusal afterSearch
+  width-never-14 β lent e =
+      let k = refused-is (decodeRefusal loaded direction (pos β) lent) 14 _ e in
+      let t = before-to loaded direction (pos β) lent in
+      let a = skip (beforeSearch loaded direction (pos β) lent) _ 14 (λ z. omega arith) k in
+      two (leb (length (entered book direction (pos β))) (lent .store / 8)) (isEmpty (lastSet book direction (pos β))) a
+    where
+      two : (s m : Bool) → 13 unless s orelse 15 unless not m ≡ 14 → ⊥
+      two true true h = omega arith
+      two true false h = omega arith
+      two false m h = omega arith
+
+  -- "a width of 596,480,000, which, but for 15 in place of 14, answers as −1 does": it, and every larger one
+  pub wide-width : (β : ℕ) (lent : Lent) → 2 * scoreBound ≤ β
+      → (decode loaded direction (pos β) lent ≡ decode loaded direction (negsuc 0) lent)
+      ⊎ ((decode loaded direction (pos β) lent ≡ refused 15) × (decode loaded direction (negsuc 0) lent ≡ refused 14))
+  unfolding decode decodeRefusal beforeSearch afterSearch
+  wide-width β lent wide =
+      wide-by (beforeSearch loaded direction (negsuc 0) lent)
+      (leb (length (entered book direction (pos β))) (lent .store / 8)) (leb (length (entered book direction (negsuc 0))) (lent .store / 8))
+      (isEmpty (lastSet book direction (pos β))) (isEmpty (lastSet book direction (negsuc 0)))
+      (record { score = answerScore (answer book direction (pos β)); states = length (entered book direction (pos β)) })
+      (record { score = answerScore (answer book direction (negsuc 0)); states = length (entered book direction (negsuc 0)) })
+      (λ b.
+      let R = loaded-ranged loaded (first-passes (bookRefusal loaded) _ b) in
+      let n = direction-to direction (first-passes (directionRefusal direction) _ (rest-passes (bookRefusal loaded) _ b)) in
+      let same : entered book direction (pos β) ≡ entered book direction (negsuc 0) = wide-entered book direction R n β wide in (
+        ap (λ (l : List Hyp). leb (length l) (lent .store / 8)) same,
+        ap isEmpty (wide-last book direction R n β wide),
+        λ i. record { score = answerScore (wide-answer book direction R n β wide i); states = length (same i) },
+      ))
