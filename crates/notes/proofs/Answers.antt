@@ -1,28 +1,27 @@
 -- What the search of a book, a direction and a width arrives at: the theorems of search_theory, in the words of document 01.
-use Prim.Native.Nat.{ℕ, zero, suc, _+_, _*_, _≤_, _<_}
+use Prim.Native.Nat.{ℕ, _*_, _≤_}
 use native.Mathlib.Omega.{arith}
-use mathlib.Core.Path.{_≡_, refl, sym, _∙_, ap, subst}
+use mathlib.Core.Path.{_≡_, refl, sym, _∙_, ap}
 use mathlib.Core.Logic.{_↔_}
-use mathlib.Core.Bool.{Bool, true, false}
-use mathlib.Core.List.{List, [], _∷_, map, List·Memᴰ, List·Memᴰ·head, List·Memᴰ·tail, List·Memᴰ·not-nil, Memᴰ·of-map}
-use mathlib.Core.Option.{Option, none, some}
-use lib.IntN.{ℤ, pos, negsuc, _+ℤ_, _-ℤ_, +ℤ-idr}
-use lib.Signed.{leZ, _≤ℤ_}
-use lib.ListN.{length, getD}
+use mathlib.Core.Bool.{true}
+use mathlib.Core.List.{List, [], map, List·Memᴰ}
+use mathlib.Core.Option.{none, some}
+use lib.IntN.{ℤ, pos, negsuc, +ℤ-idr}
+use lib.Signed.{_≤ℤ_}
+use lib.ListN.{length}
 use Rattle.laws.specs.Integers.{Within}
-use Rattle.laws.specs.Lists.{Distinct, Each, maxFrom}
-use Rattle.laws.proofs.Bounds.{within-mono}
-use Rattle.laws.proofs.Linear.{signed, sum, dif}
+use Rattle.laws.specs.Lists.{Distinct}
+use Rattle.laws.proofs.Linear.{signed, sum}
 use Rattle.laws.proofs.Lists.{count-le}
-use Rattle.search_theory.specs.Search.{Problem, St, Hypothesis, setOf, upto, run, closed, best}
-use Rattle.search_theory.specs.Statements.{after, total, of, Allowed, Legal, Reachable, keys, Unpruned, withBeam}
-use Rattle.search_theory.proofs.Sound.{set-mem, upto-legal, of-legal}
+use Rattle.search_theory.specs.Search.{Problem, closed}
+use Rattle.search_theory.specs.Statements.{after, total, of, Allowed, Legal, Reachable}
+use Rattle.search_theory.proofs.Sound.{set-mem, of-legal}
 use Rattle.search_theory.proofs.Theorems as Theory
 use Rattle.notes.specs.Book.{Book}
 use Rattle.notes.specs.Direction.{wordCount}
 use Rattle.notes.specs.Derivation.{isValid, targetWords, scoreOf, IsDerivation}
-use Rattle.notes.specs.State.{Key, Hyp, start, wordsCovered, isBetter, gainBound, scoreBound}
-use Rattle.notes.specs.Search.{bestScore, isWithin, search, entered, lastSet, answer}
+use Rattle.notes.specs.State.{Key, Hyp, start, wordsCovered, isBetter, gainBound}
+use Rattle.notes.specs.Search.{search, entered, lastSet, answer}
 use Rattle.notes.specs.declared.Step.{Step}
 use Rattle.notes.proofs.Scores.{total-score}
 use Rattle.notes.proofs.Ranges.{Ranged}

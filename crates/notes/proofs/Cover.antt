@@ -5,8 +5,8 @@ use mathlib.Core.Path.{_≡_, refl, sym, _∙_, ap}
 use mathlib.Core.Logic.{_↔_}
 use mathlib.Core.Bool.{Bool, true, false, not, cond, _&&_, _||_, true≢false, false≢true}
 use mathlib.Core.List.{List, [], _∷_}
-use borrow.Author.Tests.{le-leb, leb-true, leb-false, eqb-true, eq-eqb, not-true}
-use lib.Dec.{leb, eqb}
+use borrow.Author.Tests.{le-leb, leb-false}
+use lib.Dec.{leb}
 use lib.ListN.{length, replicate}
 use Rattle.laws.specs.Lists.{all, count}
 use Rattle.laws.proofs.Tests.{by-test, both, both-of}

@@ -1,12 +1,12 @@
 -- The demands on the replies, in the words of document 01: what scoring and decoding report, and what each refusal says.
-use Prim.Native.Nat.{ℕ, zero, suc, _+_, _*_, _/_, _≤_, _<_}
+use Prim.Native.Nat.{ℕ, zero, suc, _*_, _/_, _≤_, _<_}
 use native.Mathlib.Omega.{arith}
 use mathlib.Core.Path.{_≡_, refl, sym, _∙_, ap, subst}
 use mathlib.Core.Logic.{_↔_, _⊎_, inl, inr, ⊎-elim}
-use mathlib.Core.Bool.{Bool, true, false, not, cond, _&&_, _||_, true≢false, false≢true}
+use mathlib.Core.Bool.{Bool, true, false, not, _&&_, _||_, true≢false, false≢true}
 use mathlib.Core.List.{List, [], _∷_, map, List·Memᴰ, List·Memᴰ·head}
 use mathlib.Core.Option.{Option, none, some}
-use borrow.Author.Tests.{leb-true, leb-false, le-leb, lt-leb, not-true, not-false}
+use borrow.Author.Tests.{leb-true, leb-false, le-leb, lt-leb, not-true}
 use lib.Dec.{leb}
 use lib.IntN.{ℤ, pos, negsuc}
 use lib.Signed.{leZ, _≤ℤ_}
@@ -19,14 +19,14 @@ use Rattle.notes.specs.Questions.{_unless_, _orelse_, within}
 use Rattle.notes.specs.Book.{Book, bookOf, bookRefusal, linesRefusal, loadedLines, isWhole, isOneBFirst, isInRange, isNotTooLong, isNoTripleTwice, isWord}
 use Rattle.notes.specs.Direction.{wordCount, directionRefusal, numbersRefusal}
 use Rattle.notes.specs.Derivation.{IsDerivation, isValid, targetWords, scoreOf}
-use Rattle.notes.specs.State.{Key, Hyp, start, wordsCovered, gainBound, scoreBound}
+use Rattle.notes.specs.State.{Hyp, scoreBound}
 use Rattle.notes.specs.Search.{isOff, entered, lastSet, answer}
-use Rattle.notes.specs.Reply.{Reply, refused, done, reply, Lent, Outcome, stepsRefusal, proposalRefusal, scoreProposal, beforeSearch, afterSearch, decodeRefusal, answerScore, decode}
+use Rattle.notes.specs.Reply.{refused, done, reply, Lent, Outcome, proposalRefusal, scoreProposal, beforeSearch, afterSearch, decodeRefusal, answerScore, decode}
 use Rattle.notes.specs.declared.Step.{Step}
-use Rattle.notes.proofs.Chains.{first-passes, rest-passes, test-passes, test-fails, skip, chain-to, test-to, done-passes, done-is, refused-is, reply-done, reply-refused}
+use Rattle.notes.proofs.Chains.{first-passes, rest-passes, test-passes, skip, chain-to, test-to, done-passes, done-is, refused-is, reply-refused}
 use Rattle.notes.proofs.Valid.{proposal-valid}
-use Rattle.notes.proofs.Ranges.{Ranged, loaded-ranged}
-use Rattle.notes.proofs.Answers.{answer-last, answer-derives, answer-none, answer-best, none-valid, last-valid, covered-to, entered-bound, valid-bound, last-entered}
+use Rattle.notes.proofs.Ranges.{loaded-ranged}
+use Rattle.notes.proofs.Answers.{answer-last, answer-derives, answer-none, answer-best, none-valid, last-valid, valid-bound}
 use Rattle.notes.proofs.Widths.{wide-entered, wide-answer, wide-last}
 
 -- ════ the questions that come before

@@ -1,30 +1,30 @@
 -- The search of the notes is an instance of search_theory: its laws hold, and the sequences that it follows to the last set are the valid derivations.
-use Prim.Native.Nat.{ℕ, zero, suc, _+_, _*_, _≤_, _<_}
+use Prim.Native.Nat.{ℕ, _*_, _≤_, _<_}
 use native.Mathlib.Omega.{arith}
-use mathlib.Core.Path.{_≡_, refl, sym, _∙_, ap, subst}
-use mathlib.Core.Logic.{_↔_}
-use mathlib.Core.Bool.{Bool, true, false, not, _&&_, _||_, false≢true}
-use mathlib.Core.List.{List, [], _∷_, List·Memᴰ}
-use borrow.Author.Tests.{eqb-true, eq-eqb, leb-true}
+use mathlib.Core.Path.{_≡_, refl, sym, _∙_, ap}
+use mathlib.Core.Bool.{Bool, true, false, _&&_, false≢true}
+use mathlib.Core.List.{List, [], _∷_}
+use borrow.Author.Tests.{eqb-true, eq-eqb}
 use lib.Dec.{leb, eqb}
-use lib.IntN.{ℤ, pos, negsuc, _+ℤ_}
-use lib.ListN.{length, replicate, length-replicate}
+use lib.IntN.{ℤ, negsuc}
+use lib.ListN.{length, length-replicate}
 use Rattle.laws.specs.Integers.{Within}
-use Rattle.laws.specs.Lists.{all, count, eqList}
+use Rattle.laws.specs.Lists.{all, eqList}
 use Rattle.laws.proofs.Tests.{both, both-of}
 use Rattle.laws.proofs.Lists.{eqList-is, eqList-refl, count-le}
-use Rattle.laws.proofs.Bounds.{within-+, within-mono}
-use Rattle.search_theory.specs.Search.{Problem, St}
-use Rattle.search_theory.specs.Statements.{after, total, Allowed, Legal, Steady, Ranked, Unpruned}
+use Rattle.laws.proofs.Bounds.{within-mono}
+use Rattle.search_theory.specs.Search.{St}
+use Rattle.search_theory.specs.Statements.{after, Allowed, Legal, Steady, Ranked, Unpruned}
+use Rattle.search_theory.proofs.Bounds.{score-small}
 use Rattle.search_theory.proofs.ByScore as ByScore
 use Rattle.notes.specs.Book.{Book}
 use Rattle.notes.specs.Direction.{wordCount}
 use Rattle.notes.specs.Derivation.{fits, jump, isValid}
-use Rattle.notes.specs.State.{Key, start, wordsCovered, eqBit, isEqual, isFree, cover, mayExtend, nextKey, gain, isBetter, gainBound}
-use Rattle.notes.specs.Search.{fittingSteps, isWithin, search}
+use Rattle.notes.specs.State.{Key, start, wordsCovered, eqBit, isEqual, isFree, cover, mayExtend, nextKey, isBetter, gainBound}
+use Rattle.notes.specs.Search.{isWithin, search}
 use Rattle.notes.specs.declared.Step.{Step}
-use Rattle.notes.proofs.Steps.{Fits, fits-facts, fits-listed}
-use Rattle.notes.proofs.Cover.{cover-length, cover-adds, all-ones, none-covered}
+use Rattle.notes.proofs.Steps.{fits-facts, fits-listed}
+use Rattle.notes.proofs.Cover.{cover-length, cover-adds, all-ones}
 use Rattle.notes.proofs.Valid.{stepsPass, valid-passes}
 use Rattle.notes.proofs.Ranges.{Ranged}
 use Rattle.notes.proofs.Bounds.{gain-within}
@@ -154,22 +154,10 @@ module _ (book : Book) (direction : List ℕ) (width : ℤ) where
   -- ════ the bound: |score| ≤ 9,320,000 for each covered word
 
   module _ (R : Ranged book) where
-    total-within : (k : Key) (steps : List Step) → length (k .covered) ≡ wordCount direction → Allowed (search book direction width) k steps
-        → (m : ℕ) × (wordsCovered k + m ≤ wordsCovered (after (search book direction width) k steps)) × Within (gainBound * m) (total (search book direction width) k steps)
-    unfolding after total
-    total-within k [] n a = (0, omega arith, omega arith)
-    total-within k (s ∷ ss) n a =
-        let more : wordsCovered k < wordsCovered (nextKey book k s) = may-adds book direction k s n (a .1) in
-        let r = total-within (nextKey book k s) ss (after-length k (s ∷ []) ∙ n) (a .2) in
-        let far : wordsCovered (nextKey book k s) + r .0 ≤ wordsCovered (after (search book direction width) (nextKey book k s) ss) = r .1 in
-        (suc (r .0), omega arith, within-mono (omega arith) (within-+ (gain-within book R direction k s (a .1)) (r .2)))
-
     pub score-within : (q : St (search book direction width)) → Legal (search book direction width) q → Within (gainBound * wordsCovered (q .key)) (q .score)
     score-within q g =
-        let r = total-within (start (wordCount direction)) (q .steps) start-length (g .allowed) in
-        let far : wordsCovered (start (wordCount direction)) + r .0 ≤ wordsCovered (after (search book direction width) (start (wordCount direction)) (q .steps)) = r .1 in
-        let e : wordsCovered (q .key) ≡ wordsCovered (after (search book direction width) (start (wordCount direction)) (q .steps)) = ap wordsCovered (g .key-is) in
-        subst (λ (z : ℤ). Within (gainBound * wordsCovered (q .key)) z) (sym (g .score-is)) (within-mono (omega arith) (r .2))
+        within-mono (omega arith)
+        (score-small (search book direction width) gainBound (λ u _ p _ y. gain-within book R direction (u .key) p y) steady q g (wordsCovered (q .key)) (omega arith))
 
 -- with pruning off the beam drops nothing
 pub off-unpruned : (book : Book) (direction : List ℕ) → Unpruned (search book direction (negsuc 0))

@@ -3,19 +3,19 @@ use Prim.Native.Nat.{ℕ, zero, suc, _+_, _≤_}
 use native.Mathlib.Nat.{not-suc-le-zero, le-of-suc-le-suc}
 use native.Mathlib.Omega.{arith}
 use mathlib.Core.Path.{_≡_, refl, sym, _∙_, ap}
-use mathlib.Core.Bool.{Bool, true, false, not, cond, _&&_, false≢true}
+use mathlib.Core.Bool.{Bool, true, false, cond, _&&_, false≢true}
 use mathlib.Core.List.{List, [], _∷_, _++_}
 use borrow.Author.Tests.{eqb-true}
 use lib.Dec.{eqb}
-use lib.IntN.{ℤ, pos}
+use lib.IntN.{ℤ}
 use lib.ListN.{length, length-append}
 use lib.Seq.{take-append-seam, drop-append-seam}
 use Rattle.laws.specs.Lists.{all, concat}
 use Rattle.laws.proofs.Tests.{both}
-use Rattle.notes.specs.Questions.{_unless_, _orelse_}
-use Rattle.notes.specs.Book.{isB, isP, isT, isPhraseLength, numberAt, naturalAt, sizeOf, isWhole, cutLines, loadedLines, linesRefusal, bookRefusal, isBookText, textLines, loadedOf, readRefusal}
+use Rattle.notes.specs.Questions.{_unless_}
+use Rattle.notes.specs.Book.{isB, isP, isT, isPhraseLength, naturalAt, sizeOf, isWhole, cutLines, loadedLines, linesRefusal, bookRefusal, isBookText, textLines, loadedOf, readRefusal}
 use Rattle.notes.proofs.Chains.{first-passes, rest-passes}
-use Rattle.notes.proofs.Ranges.{Passed, lines-passed}
+use Rattle.notes.proofs.Ranges.{lines-passed}
 
 -- a line of one number, or of two, has the size of no kind
 not-one : (b p t : Bool) → eqb 1 (cond b 4 (cond p 0 (cond t 5 0))) ≡ true → ⊥

@@ -1,22 +1,21 @@
 -- What a book that 2 to 6 pass holds: its numbers are in their ranges, and a P line has its words and its score where they should be.
-use Prim.Native.Nat.{ℕ, zero, suc, _+_, _*_, _-_, _≤_, _<_, min}
+use Prim.Native.Nat.{ℕ, _+_, _-_, _≤_}
 use native.Mathlib.Omega.{arith}
-use mathlib.Core.Path.{_≡_, refl, sym, _∙_, ap, subst}
-use mathlib.Core.Bool.{Bool, true, false, not, cond, _&&_, true≢false, false≢true}
-use mathlib.Core.Logic.{⊎-elim}
-use mathlib.Core.List.{List, [], _∷_, map, dropLast, List·Memᴰ, List·Memᴰ·head, List·Memᴰ·tail, Memᴰ·of-map}
+use mathlib.Core.Path.{_≡_, sym, _∙_, subst}
+use mathlib.Core.Bool.{true, not, cond, _&&_, true≢false, false≢true}
+use mathlib.Core.List.{List, [], _∷_, map, dropLast, List·Memᴰ, Memᴰ·of-map}
 use borrow.Author.Tests.{eqb-true, ltb-true, ltb-false}
-use lib.Dec.{leb, ltb, eqb}
+use lib.Dec.{ltb}
 use lib.IntN.{ℤ, pos, negsuc}
 use lib.Signed.{leZ}
 use lib.ListN.{length, getD, take, drop, length-take, length-drop, length-map, List·getD-eq-default}
 use Rattle.laws.specs.Integers.{Within, eqℤ, natOf}
-use Rattle.laws.specs.Lists.{all, any, keep, isEmpty}
+use Rattle.laws.specs.Lists.{all, keep, isEmpty}
 use Rattle.laws.proofs.Tests.{by-test, both}
 use Rattle.laws.proofs.Linear.{signed, num}
 use Rattle.laws.proofs.Order.{yes-≡}
 use Rattle.laws.proofs.Lists.{all-mem, keep-mem, getD-mem}
-use Rattle.notes.specs.Questions.{_unless_, _orelse_, withinℤ}
+use Rattle.notes.specs.Questions.{_unless_, withinℤ}
 use Rattle.notes.specs.Book.{numberAt, naturalAt, isB, isP, isT, isPhraseLength, sizeOf, isWhole, isOneBFirst, isScore, isWord, isWordOrStart, rangesB, rangesP, rangesT, isInRange, isNotTooLong, isNoTripleTwice, linesRefusal, bookRefusal, loadedLines, wordsAt, Entry, Triple, Book, entryOf, tripleOf, bookOfLines, bookOf}
 use Rattle.notes.specs.Derivation.{noEntry, entryAt}
 use Rattle.notes.proofs.Chains.{first-passes, rest-passes, test-passes}

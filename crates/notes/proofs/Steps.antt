@@ -1,20 +1,20 @@
 -- The steps that the search tries are exactly the steps that fit.
-use Prim.Native.Nat.{ℕ, zero, suc, _+_, _-_, _≤_, _<_}
+use Prim.Native.Nat.{ℕ, _+_, _-_, _≤_}
 use native.Mathlib.Omega.{arith}
-use mathlib.Core.Path.{_≡_, refl, sym, _∙_, ap, subst}
-use mathlib.Core.Bool.{Bool, true, false, _&&_}
-use mathlib.Core.List.{List, [], _∷_, map, List·Memᴰ, Memᴰ·cast, Memᴰ·map, Memᴰ·of-map}
-use borrow.Author.Tests.{leb-true, eqb-true}
+use mathlib.Core.Path.{_≡_, sym, _∙_, subst}
+use mathlib.Core.Bool.{true, _&&_}
+use mathlib.Core.List.{List, map, List·Memᴰ, Memᴰ·cast, Memᴰ·map, Memᴰ·of-map}
+use borrow.Author.Tests.{leb-true}
 use lib.Dec.{leb, eqb}
-use lib.ListN.{length, getD}
+use lib.ListN.{length}
 use lib.Seq.{slice, length-slice}
-use Rattle.laws.specs.Lists.{keep, concat, eqList, oneTo}
+use Rattle.laws.specs.Lists.{keep, eqList, oneTo}
 use Rattle.laws.proofs.Tests.{both}
 use Rattle.laws.proofs.Lists.{mem-keep, keep-mem, mem-concat, concat-mem, mem-oneTo, eqList-length}
 use Rattle.notes.specs.Questions.{within}
-use Rattle.notes.specs.Book.{Book, Entry}
+use Rattle.notes.specs.Book.{Book}
 use Rattle.notes.specs.Direction.{wordCount}
-use Rattle.notes.specs.Derivation.{noEntry, isEntry, entryAt, wordsFromTo, fits}
+use Rattle.notes.specs.Derivation.{isEntry, entryAt, wordsFromTo, fits}
 use Rattle.notes.specs.Search.{stepAt, fittingSteps}
 use Rattle.notes.specs.declared.Step.{Step}
 

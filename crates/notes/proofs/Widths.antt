@@ -1,24 +1,22 @@
 -- A width of twice the score bound, 596,480,000, or more prunes nothing.
-use Prim.Native.Nat.{ℕ, zero, suc, _+_, _*_, _≤_, _<_}
+use Prim.Native.Nat.{ℕ, _*_, _≤_}
 use native.Mathlib.Omega.{arith}
-use mathlib.Core.Path.{_≡_, refl, ap, subst}
-use mathlib.Core.Bool.{Bool, true, false}
+use mathlib.Core.Path.{_≡_, refl, sym, ap, subst}
 use mathlib.Core.List.{List, [], _∷_, map, List·Memᴰ, List·Memᴰ·head, List·Memᴰ·tail, Memᴰ·of-map}
-use lib.IntN.{ℤ, pos, negsuc, _-ℤ_}
-use lib.Signed.{leZ}
+use lib.IntN.{ℤ, pos, negsuc}
 use lib.ListN.{length}
 use Rattle.laws.specs.Integers.{Within}
 use Rattle.laws.proofs.Bounds.{within-mono}
 use Rattle.laws.proofs.Linear.{signed, dif}
 use Rattle.laws.proofs.Lists.{getD-mem, count-le}
 use Rattle.laws.proofs.Sums.{max-within}
-use Rattle.search_theory.specs.Search.{Problem, setOf, upto, run, best}
+use Rattle.search_theory.specs.Search.{setOf, upto}
 use Rattle.search_theory.specs.Statements.{Legal, Unpruned}
 use Rattle.search_theory.proofs.Sound.{set-mem, upto-legal}
 use Rattle.search_theory.proofs.Theorems as Theory
 use Rattle.notes.specs.Book.{Book}
 use Rattle.notes.specs.Direction.{wordCount}
-use Rattle.notes.specs.State.{Hyp, wordsCovered, gainBound, scoreBound}
+use Rattle.notes.specs.State.{Hyp, wordsCovered, scoreBound}
 use Rattle.notes.specs.Search.{bestScore, isWithin, search, entered, lastSet, answer}
 use Rattle.notes.proofs.Ranges.{Ranged}
 use Rattle.notes.proofs.Instance.{legal-length, score-within, off-unpruned}
@@ -57,11 +55,11 @@ module _ (book : Book) (direction : List ℕ) (R : Ranged book) (n32 : wordCount
     -- so the states entered, the last set and the answer are those with pruning off
     pub wide-entered : entered book direction (pos β) ≡ entered book direction (negsuc 0)
     unfolding entered
-    wide-entered = Theory.same-run (search book direction (negsuc 0)) (isWithin (pos β)) (off-unpruned book direction) wide-unpruned
+    wide-entered = sym (Theory.same-run (search book direction (negsuc 0)) (isWithin (pos β)) (off-unpruned book direction) wide-unpruned)
 
     pub wide-answer : answer book direction (pos β) ≡ answer book direction (negsuc 0)
     unfolding answer
-    wide-answer = Theory.same-best (search book direction (negsuc 0)) (isWithin (pos β)) (off-unpruned book direction) wide-unpruned
+    wide-answer = sym (Theory.same-best (search book direction (negsuc 0)) (isWithin (pos β)) (off-unpruned book direction) wide-unpruned)
 
     pub wide-last : lastSet book direction (pos β) ≡ lastSet book direction (negsuc 0)
     unfolding lastSet setOf

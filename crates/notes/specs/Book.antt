@@ -1,8 +1,8 @@
 -- The book: its text, its lines as numbers, questions 1 to 7, and the model that it states.
 -- A line is the list of its numbers, its kind first: "the letters B, P, T as 1, 2, 3".
 use Prim.Native.Nat.{ℕ, zero, suc, _+_, _-_}
-use mathlib.Core.Bool.{Bool, true, false, not, _&&_, _||_, cond}
-use mathlib.Core.List.{List, [], _∷_, _++_, map, dropLast}
+use mathlib.Core.Bool.{Bool, true, false, not, _&&_, cond}
+use mathlib.Core.List.{List, [], _∷_, map, dropLast}
 use lib.Dec.{eqb, leb}
 use lib.IntN.{ℤ, pos, negℤ}
 use lib.ListN.{length, getD, take, drop}

@@ -1,6 +1,6 @@
 -- Lines, fields and decimal numbers in a text of bytes.
 use Prim.Native.Nat.{ℕ, _+_, _*_, _-_}
-use mathlib.Core.Bool.{Bool, true, false, not, _&&_, cond}
+use mathlib.Core.Bool.{Bool, false, not, _&&_, cond}
 use mathlib.Core.List.{List, [], _∷_, map, dropLast}
 use lib.Dec.{eqb, leb}
 use lib.IntN.{ℤ, pos, negℤ}

@@ -1,7 +1,7 @@
 -- What the rendering program prints: the bytes of `book.txt` and of standard input to the bytes of standard output.
 use Prim.Native.Nat.{ℕ, zero, suc, _+_, _*_, _/_, _%_}
 use mathlib.Core.Path.{_≡_}
-use mathlib.Core.Bool.{Bool, true, false, _&&_}
+use mathlib.Core.Bool.{true, false, _&&_}
 use mathlib.Core.List.{List, [], _∷_, _++_, map}
 use lib.Dec.{leb, ltb}
 use lib.IntN.{ℤ, pos, negsuc}
@@ -12,7 +12,7 @@ use Rattle.notes.specs.Numerals.{newline, comma, minus}
 use Rattle.notes.specs.Book.{Book, loadedOf, bookOf, readRefusal}
 use Rattle.notes.specs.Direction.{wordCount, directionOf, readDirectionRefusal}
 use Rattle.notes.specs.Derivation.{IsDerivation}
-use Rattle.notes.specs.Reply.{Reply, refused, done, Outcome, Lent, decode}
+use Rattle.notes.specs.Reply.{Reply, refused, done, Outcome, decode}
 use Rattle.notes.specs.declared.Step.{Step}
 
 -- ════ printed numbers and lines

@@ -1,6 +1,6 @@
 -- The search: the procedure of the notes (crate search_theory, specs/Search) for a book, a direction and a width.
 use Prim.Native.Nat.{ℕ, _+_, _-_}
-use mathlib.Core.Bool.{Bool, true, false, _||_}
+use mathlib.Core.Bool.{Bool, _||_}
 use mathlib.Core.List.{List, [], _∷_, map}
 use mathlib.Core.Option.{Option}
 use lib.IntN.{ℤ, pos, negsuc, _-ℤ_}
@@ -8,8 +8,8 @@ use lib.Signed.{leZ}
 use lib.ListN.{length}
 use Rattle.laws.specs.Integers.{eqℤ}
 use Rattle.laws.specs.Lists.{keep, concat, oneTo, maxFrom}
-use Rattle.search_theory.specs.Search.{Problem, Hypothesis, setOf, run, best}
-use Rattle.notes.specs.Book.{Book, Entry}
+use Rattle.search_theory.specs.Search.{Problem, setOf, run, best}
+use Rattle.notes.specs.Book.{Book}
 use Rattle.notes.specs.Direction.{wordCount}
 use Rattle.notes.specs.Derivation.{entryAt, fits}
 use Rattle.notes.specs.State.{Key, Hyp, start, wordsCovered, isEqual, mayExtend, nextKey, gain, isBetter}

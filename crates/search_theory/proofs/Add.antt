@@ -3,7 +3,7 @@ use Prim.Native.Nat.{ℕ, suc, _<_, _≤_, zero-le, suc-le-suc}
 use mathlib.Core.Path.{_≡_, refl, sym, _∙_, ap, subst}
 use mathlib.Core.Bool.{Bool, false, cond, true≢false}
 use mathlib.Core.Logic.{_⊎_, inl, inr, ⊎-elim}
-use mathlib.Core.List.{List, [], _∷_, List·Memᴰ, List·Memᴰ·head, List·Memᴰ·tail, Memᴰ·cast, List·Memᴰ·cases-cons, List·Memᴰ·not-nil}
+use mathlib.Core.List.{List, [], _∷_, List·Memᴰ, List·Memᴰ·head, List·Memᴰ·tail, Memᴰ·cast, Memᴰ·map, Memᴰ·of-map, List·Memᴰ·cases-cons, List·Memᴰ·not-nil}
 use native.Mathlib.Nat.{le-refl, le-trans, lt-irrefl}
 use lib.ListN.{length}
 use Rattle.laws.specs.Lists.{keep, Distinct}
@@ -18,12 +18,14 @@ module _ (P : Problem) (S : Steady P) (R : Ranked P) where
   open Steady S using (same-eq)
   open Ranked R using (asym, ntrans)
 
+  -- a state of the list covers itself
   pub self : {t : St P} {l : List (St P)} → List·Memᴰ t l → Covered P l t
   self {t} m = record { by = t; member = m; its-key = refl; not-worse = irrefl better asym ntrans t }
 
   skip : {x t : St P} {l : List (St P)} → Covered P l t → Covered P (x ∷ l) t
   skip c = record { by = c .by; member = List·Memᴰ·tail (c .member); its-key = c .its-key; not-worse = c .not-worse }
 
+  -- what was in the list is covered
   cover-old : (s : St P) (l : List (St P)) {t : St P} → List·Memᴰ t l → Covered P (add P s l) t
   unfolding add
   cover-old s [] m = absurd (List·Memᴰ·not-nil m)
@@ -37,6 +39,7 @@ module _ (P : Problem) (S : Steady P) (R : Ranked P) where
       (λ m′. if-ind (same (x .key) (s .key)) (λ (r : List (St P)). Covered P r t) (λ _. self (List·Memᴰ·tail m′)) (λ _. skip (cover-old s l m′)))
       (List·Memᴰ·cases-cons m)
 
+  -- what is added is covered
   pub cover-new : (s : St P) (l : List (St P)) → Covered P (add P s l) s
   unfolding add
   cover-new s [] = self (List·Memᴰ·head refl)
@@ -46,6 +49,7 @@ module _ (P : Problem) (S : Steady P) (R : Ranked P) where
       (λ b. record { by = t; member = List·Memᴰ·head refl; its-key = same-eq _ _ e; not-worse = b }))
       (λ _. skip (cover-new s l))
 
+  -- what was covered stays so
   pub cover-add : (s : St P) (l : List (St P)) {u : St P} → Covered P l u → Covered P (add P s l) u
   cover-add s l {u} c =
       let d = cover-old s l (c .member) in
@@ -81,16 +85,11 @@ module _ (P : Problem) (S : Steady P) where
   apart a b e h = true≢false (sym (same-refl a) ∙ ap (same a) h ∙ e)
 
   keys-add : (s : St P) (l : List (St P)) {k : Key} → List·Memᴰ k (keys P (add P s l)) → List·Memᴰ k (keys P l) ⊎ (k ≡ s .key)
-  unfolding add
-  keys-add s [] m = ⊎-elim inr inl (List·Memᴰ·cases-cons m)
-  keys-add s (t ∷ l) {k} m =
-      let Goal : Type 0 = List·Memᴰ k (keys P (t ∷ l)) ⊎ (k ≡ s .key) in
-      let go : List·Memᴰ k (keys P (add P s (t ∷ l))) → Goal =
-      if-ind (same (t .key) (s .key)) (λ (r : List (St P)). List·Memᴰ k (keys P r) → Goal)
-      (λ _ m. ⊎-elim (if-ind (better s t) (λ (r : St P). k ≡ r .key → Goal) (λ _ h. inr h) (λ _ h. inl (List·Memᴰ·head h))) (λ m′. inl (List·Memᴰ·tail m′)) (List·Memᴰ·cases-cons m))
-      (λ _ m. ⊎-elim (λ h. inl (List·Memᴰ·head h)) (λ m′. ⊎-elim (λ z. inl (List·Memᴰ·tail z)) inr (keys-add s l m′)) (List·Memᴰ·cases-cons m)) in
-      go m
+  keys-add s l m =
+      let r = Memᴰ·of-map (λ (x : St P). x .key) (add P s l) m in
+      ⊎-elim (λ m′. inl (Memᴰ·cast (sym (r .2)) (Memᴰ·map (λ (x : St P). x .key) m′))) (λ e. inr (sym (r .2) ∙ ap (λ (x : St P). x .key) e)) (mem-add P s l (r .1))
 
+  -- the keys stay different
   pub distinct-add : (s : St P) (l : List (St P)) → Distinct (keys P l) → Distinct (keys P (add P s l))
   unfolding add
   distinct-add s [] d = (λ m. List·Memᴰ·not-nil m, tt)

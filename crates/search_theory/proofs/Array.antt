@@ -2,24 +2,26 @@
 -- `d` is a state or a step that nothing depends on: what `getD` gives past the end.
 use Prim.Native.Nat.{ℕ, zero, suc, _+_, _<_, _≤_, zero-le, suc-le-suc}
 use mathlib.Core.Path.{_≡_, refl, sym, _∙_, ap, subst, subst₂}
-use mathlib.Core.Bool.{true, false, cond}
+use mathlib.Core.Bool.{Bool, true, false, cond}
 use mathlib.Core.List.{List, [], _∷_, _++_, List·Memᴰ}
-use native.Mathlib.Nat.{le-trans, le-of-eq, le-of-suc-le-suc, not-suc-le-zero, lt-of-le-of-lt}
+use mathlib.Core.Option.{Option}
 use native.Mathlib.Decide.{ℕ-discrete}
+use native.Mathlib.Nat.{le-trans, le-of-eq, le-of-suc-le-suc, not-suc-le-zero, lt-of-le-of-lt}
 use native.Mathlib.Omega.{arith}
 use borrow.Author.Tests.{eqb-true, eq-eqb}
 use lib.Dec.{eqb}
+use lib.IntN.{ℤ}
 use lib.ListN.{length, getD, set, drop, drop-of-length-le, length-append, length-set, List·getD-append}
 use lib.Seq.{drop-cons, getD-set-same, getD-set-other, getD-append-seam}
-use Rattle.laws.proofs.Tests.{if-ind, by-test}
-use Rattle.search_theory.specs.Search.{Problem, St, extend, add, setOf, upto, run}
-use Rattle.search_theory.specs.Loops.{grow, visit, sweep}
+use Rattle.laws.proofs.Tests.{if-ind, by-test, ap-cond}
+use Rattle.laws.proofs.Lists.{getD-mem}
+use Rattle.search_theory.specs.Search.{Hypothesis, Problem, wins, St, extend, add, setOf, upto, run}
+use Rattle.search_theory.specs.Loops.{grow, visit, sweep, closing, pick}
 use Rattle.search_theory.specs.Statements.{Legal, Steady, Kept, InLevel, InGrow, Agree}
 use Rattle.search_theory.proofs.Add.{kept-add}
-use Rattle.search_theory.proofs.General.{ap-cond, getD-mem}
 use Rattle.search_theory.proofs.Loops.{upto-sweep}
-use Rattle.search_theory.proofs.Longer.{no-longer}
 use Rattle.search_theory.proofs.Sound.{upto-legal}
+use Rattle.search_theory.proofs.Longer.{no-longer}
 
 -- ---- an array of a fixed length that holds the list in its first places
 module _ {A B : Type 0} (ok : A → B → Type 0) (r : A) (d : B) where
@@ -52,8 +54,21 @@ module _ {A B : Type 0} (ok : A → B → Type 0) (r : A) (d : B) where
           let lt : j < length l = omega arith in
           subst₂ ok (sym (getD-set-other arr (length l) j v r e)) (sym (List·getD-append l (s ∷ []) d j lt)) (g .each j lt)
 
+-- ---- the answer, picked over the places of a list: at k, and at the end
+module _ {Key Step : Type 0} (size : Key → ℕ) (n : ℕ) (close : Key → ℤ) (better : Hypothesis Key Step → Hypothesis Key Step → Bool) where
+  -- the turn at place k
+  pub pick-at : (b : Option (Hypothesis Key Step)) (l : List (Hypothesis Key Step)) (k : ℕ) (d : Hypothesis Key Step) → k < length l
+      → pick size n close better b (drop k l) ≡ pick size n close better (cond (eqb (size (getD l k d .key)) n) (wins better b (closing close (getD l k d))) b) (drop (suc k) l)
+  unfolding pick
+  pick-at b l k d h = ap (pick size n close better b) (drop-cons l k d h)
+
+  -- no place is left
+  pub pick-end : (b : Option (Hypothesis Key Step)) (l : List (Hypothesis Key Step)) (k : ℕ) → length l ≤ k → pick size n close better b (drop k l) ≡ b
+  unfolding pick
+  pick-end b l k h = ap (pick size n close better b) (drop-of-length-le l h)
+
 module _ (P : Problem) where
-  open Problem P using (Key, Step, same, options, may, size, n, better, inBeam)
+  open Problem P using (Step, same, options, may, size, n, better, inBeam)
 
   -- ---- Add: the search for an equal key stops at place j, or at the end
   pub add-hit : (s d : St P) (l : List (St P)) (j : ℕ) → j < length l → ((m : ℕ) → m < j → same (getD l m d .key) (s .key) ≡ false)
@@ -65,6 +80,7 @@ module _ (P : Problem) where
       rw (a 0 (suc-le-suc zero-le)) (ap (λ r. t ∷ r) (add-hit s d l j (le-of-suc-le-suc h) (λ m k. a (suc m) (suc-le-suc k)) e)
       ∙ ap-cond (λ (r : List (St P)). t ∷ r) (better s (getD l j d)) (set l j s) l)
 
+  -- no equal key: the state is entered behind the others
   pub add-miss : (s d : St P) (l : List (St P)) → ((m : ℕ) → m < length l → same (getD l m d .key) (s .key) ≡ false) → add P s l ≡ l ++ (s ∷ [])
   unfolding add
   add-miss s d [] a = refl
@@ -75,11 +91,13 @@ module _ (P : Problem) where
   kept-refl i [] = tt
   kept-refl i (t ∷ l) = (refl, λ _. refl, kept-refl i l)
 
+  -- so the list is at least as long
   pub kept-long : (i : ℕ) (base l : List (St P)) → Kept P i base l → length base ≤ length l
   kept-long i [] l k = zero-le
   kept-long i (b ∷ base) [] k = absurd k
   kept-long i (b ∷ base) (t ∷ l) k = suc-le-suc (kept-long i base l (k .2))
 
+  -- at each place of the start the key is the same, and the state where the size is at most i
   pub kept-at : (i : ℕ) (base l : List (St P)) → Kept P i base l → (j : ℕ) (d : St P) → j < length base
       → (getD l j d .key ≡ getD base j d .key) × (size (getD base j d .key) ≤ i → getD l j d ≡ getD base j d)
   kept-at i [] l k j d h = absurd (not-suc-le-zero h)
@@ -119,6 +137,7 @@ module _ (P : Problem) where
   unfolding visit
   visit-other i set q l e = rw e
 
+  -- a state that the beam drops
   pub visit-drop : (i : ℕ) (set : List (St P)) (q : St P) (l : List (St P)) → inBeam set q ≡ false → visit P i set q l ≡ l
   unfolding visit
   visit-drop i set q l e = if-ind (eqb (size (q .key)) i) (λ (r : List (St P)). r ≡ l) (λ _. rw e) (λ _. refl)
@@ -133,9 +152,11 @@ module _ (P : Problem) where
     abbrev Rest : ℕ → List (St P) → List (St P)
     Rest j = sweep P i (setOf P i (upto P i)) (drop j (upto P i))
 
+    -- before the first place
     pub level-begin : InLevel P i 0 (upto P i)
     level-begin = record { rest = upto-sweep P i; kept = kept-refl i (upto P i) }
 
+    -- after the last place the list is that of the next level
     pub level-end : (j : ℕ) (l : List (St P)) → length (upto P i) ≤ j → InLevel P i j l → l ≡ upto P (suc i)
     level-end j l h v = sym (sweep-end i (setOf P i (upto P i)) (upto P i) l j h) ∙ v .rest
 
@@ -158,6 +179,7 @@ module _ (P : Problem) where
         let k = kept-at i (upto P i) l (v .kept) j d h in
         subst (Legal P) (sym (k .1 (le-of-eq (ap size (sym (k .0)) ∙ z)))) (upto-legal P i _ (getD-mem (upto P i) j d h))
 
+    -- after the last option
     pub grow-done : (j : ℕ) (q : St P) (o : ℕ) (l : List (St P)) → length options ≤ o → InGrow P i j q o l → InLevel P i (suc j) l
     grow-done j q o l h v = record { rest = ap (Rest (suc j)) (sym (grow-end q l o h)) ∙ v .rest; kept = v .kept }
 
@@ -181,7 +203,7 @@ module _ (P : Problem) where
         omega arith
 
 module _ (P : Problem) (S : Steady P) where
-  open Problem P using (Step, same, options, may, size, better)
+  open Problem P using (Step, options, may, size)
 
   -- a step from set i keeps what the level began with
   pub kept-extend : (i : ℕ) (q : St P) → Legal P q → size (q .key) ≡ i → (p : Step) → List·Memᴰ p options → may (q .key) p ≡ true

@@ -9,7 +9,7 @@ use native.Mathlib.Omega.{arith}
 use Rattle.laws.specs.Lists.{concat}
 use Rattle.search_theory.specs.Search.{Problem, highest, St, first, extend, add, addAll, setOf, beam, extensions, level, upto, run, closed, best}
 use Rattle.search_theory.specs.Statements.{Unpruned, withBeam}
-use Rattle.search_theory.proofs.General.{keep-all}
+use Rattle.laws.proofs.Lists.{keep-all, mem-all}
 
 module _ (P : Problem) (b : List (St P) → St P → Bool) where
   open Problem P using (same, n, better)
@@ -34,15 +34,17 @@ module _ (P : Problem) (b : List (St P) → St P → Bool) where
     upto-same zero h = refl
     upto-same (suc i) h =
         let e : upto P′ i ≡ upto P i = upto-same i (omega arith) in
-        ap (λ (qs : List (St P)). addAll P′ (concat (map (extensions P) qs)) (upto P′ i)) (keep-all (b (setOf P i (upto P′ i))) (setOf P i (upto P′ i)) (U′ i h))
+        ap (λ (qs : List (St P)). addAll P′ (concat (map (extensions P) qs)) (upto P′ i)) (keep-all (b (setOf P i (upto P′ i))) (setOf P i (upto P′ i)) (mem-all _ _ (U′ i h)))
         ∙ ap (λ (l : List (St P)). addAll P′ (concat (map (extensions P) (setOf P i l))) l) e
         ∙ all-same (concat (map (extensions P) (setOf P i (upto P i)))) (upto P i)
-        ∙ ap (λ (qs : List (St P)). addAll P (concat (map (extensions P) qs)) (upto P i)) (sym (keep-all (P .inBeam (setOf P i (upto P i))) (setOf P i (upto P i)) (U i h)))
+        ∙ ap (λ (qs : List (St P)). addAll P (concat (map (extensions P) qs)) (upto P i)) (sym (keep-all (P .inBeam (setOf P i (upto P i))) (setOf P i (upto P i)) (mem-all _ _ (U i h))))
 
-    pub same-run : run P′ ≡ run P
+    -- the states are the same
+    pub same-run : run P ≡ run P′
     unfolding run
-    same-run = upto-same n (le-refl n)
+    same-run = sym (upto-same n (le-refl n))
 
-    pub same-best : best P′ ≡ best P
+    -- the answer is the same
+    pub same-best : best P ≡ best P′
     unfolding best closed setOf
     same-best = ap (λ (l : List (St P)). highest better none (map (closed P) (setOf P n l))) same-run

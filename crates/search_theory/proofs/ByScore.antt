@@ -1,8 +1,8 @@
 -- `better` by the score alone, the greater score: it has the laws that are asked, and optimality reads as a bound on scores.
 use mathlib.Core.Path.{_≡_, sym, _∙_, ap}
 use mathlib.Core.Bool.{false}
-use mathlib.Core.Option.{some}
 use mathlib.Core.List.{List, List·Memᴰ}
+use mathlib.Core.Option.{some}
 use lib.IntN.{ℤ, _+ℤ_}
 use lib.Signed.{ltZ, _≤ℤ_}
 use Rattle.laws.proofs.Order.{no-<}
@@ -12,12 +12,13 @@ use Rattle.search_theory.specs.Statements.{after, total, Allowed, of, St
 use Rattle.search_theory.proofs.Optimal.{complete, optimal}
 
 module _ (P : Problem) (is : (a b : St P) → P .better a b ≡ ltZ (b .score) (a .score)) where
-  open Problem P using (Key, Step, start, next, gain, size, n, close, better)
+  open Problem P using (Key, Step, start, gain, size, n, close, better)
 
   -- two states with one key, after the same gain
   after-gain : (g : Key → ℤ) (a b : St P) → a .key ≡ b .key → better a b ≡ false → ltZ (b .score +ℤ g (b .key)) (a .score +ℤ g (a .key)) ≡ false
   after-gain g a b k e = ap (λ (x : Key). ltZ (b .score +ℤ g x) (a .score +ℤ g (a .key))) (sym k) ∙ ltZ-add (g (a .key)) (b .score) (a .score) ∙ sym (is a b) ∙ e
 
+  -- the laws
   pub ranked : Ranked P
   unfolding extend closed more
   ranked =

@@ -1,14 +1,14 @@
 -- With a beam that drops nothing, the keys of the search are those that an allowed sequence leads to, and there are as many states as such keys.
+use Prim.Native.Nat.{_≤_}
 use mathlib.Core.Path.{_≡_, sym, _∙_}
 use mathlib.Core.Logic.{_↔_}
 use mathlib.Core.List.{List, List·Memᴰ, Memᴰ·cast, Memᴰ·map, Memᴰ·of-map}
 use native.Mathlib.Nat.{le-trans, le-of-eq, le-antisymm}
-use Prim.Native.Nat.{_≤_}
 use lib.ListN.{length, length-map}
 use Rattle.laws.specs.Lists.{Distinct}
 use Rattle.search_theory.specs.Search.{Problem, St, run}
 use Rattle.search_theory.specs.Statements.{of, Steady, Ranked, Unpruned, Reachable, keys}
-use Rattle.search_theory.proofs.General.{pigeon}
+use Rattle.laws.proofs.Lists.{pigeon}
 use Rattle.search_theory.proofs.Sound.{sound}
 use Rattle.search_theory.proofs.Sets.{distinct}
 use Rattle.search_theory.proofs.Optimal.{complete}
@@ -16,6 +16,7 @@ use Rattle.search_theory.proofs.Optimal.{complete}
 module _ (P : Problem) (S : Steady P) (R : Ranked P) (U : Unpruned P) where
   open Problem P using (Key)
 
+  -- the keys of the states are those that an allowed sequence leads to
   pub reached : (k : Key) → List·Memᴰ k (keys P (run P)) ↔ Reachable P k
   unfolding of
   reached k = (

@@ -1,30 +1,33 @@
 -- `better` by the score, and among equal scores by the steps: it has the laws that are asked, and there is one best sequence, which is found.
-use Prim.Native.Nat.{_<_}
+use Prim.Native.Nat.{suc, _+_, _≤_}
 use mathlib.Core.Path.{_≡_, refl, sym, _∙_, ap, ap₂, subst}
 use mathlib.Core.Bool.{Bool, true, false, true≢false, false≢true}
 use mathlib.Core.Logic.{_⊎_, inl, inr}
-use mathlib.Core.Option.{some}
 use mathlib.Core.List.{List, [], _∷_, _++_}
-use native.Mathlib.Nat.{le-trans, le-of-eq, lt-irrefl}
+use mathlib.Core.Option.{some}
+use native.Mathlib.Omega.{arith}
 use lib.IntN.{ℤ, _+ℤ_}
+use lib.ListN.{length}
 use lib.Signed.{ltZ}
-use Rattle.laws.proofs.Tests.{by-test}
 use Rattle.laws.proofs.Orders.{Weak, weak-irrefl, more, more-weak, ltZ-add, lex, lex-both, lex-rest, lex-asym, lex-ntrans}
+use Rattle.laws.proofs.Tests.{by-test}
 use Rattle.search_theory.specs.Search.{Problem, St, extend, closed, best}
 use Rattle.search_theory.specs.Orders.{before, ahead}
 use Rattle.search_theory.specs.Statements.{after, Allowed, of, Legal, Steady, Ranked, Unpruned}
-use Rattle.search_theory.proofs.Sound.{after-append, allowed-rest, legal-extend}
+use Rattle.search_theory.proofs.Sound.{after-append, allowed-rest}
 use Rattle.search_theory.proofs.Sets.{longer}
 use Rattle.search_theory.proofs.Optimal.{optimal}
 
 -- ---- the order of lists of steps
 module _ {Step : Type 0} (less : Step → Step → Bool) (W : Weak less) where
+  -- not both come first
   pub before-asym : (xs ys : List Step) → before less xs ys ≡ true → before less ys xs ≡ false
   before-asym [] [] e = refl
   before-asym [] (y ∷ ys) e = refl
   before-asym (x ∷ xs) [] e = absurd (false≢true e)
   before-asym (x ∷ xs) (y ∷ ys) e = lex-asym less W x y (before less xs ys) (before less ys xs) (before-asym xs ys) e
 
+  -- "does not come before" is transitive
   pub before-ntrans : (xs ys zs : List Step) → before less xs ys ≡ false → before less ys zs ≡ false → before less xs zs ≡ false
   before-ntrans [] [] zs e f = f
   before-ntrans [] (y ∷ ys) zs e f = absurd (true≢false e)
@@ -44,6 +47,7 @@ module _ {Step : Type 0} (less : Step → Step → Bool) (W : Weak less) where
         lex-rest (less x y) (less y x) (before less xs ys) (before less (xs ++ (p ∷ [])) (ys ++ (p ∷ [])))
         (λ f g h. before-snoc p xs ys (λ z zs q. part z zs (ap₂ {C = List Step} _∷_ (tot x y f g) q)) h) e
 
+    -- where neither comes first they are the same
     pub before-total : (xs ys : List Step) → before less xs ys ≡ false → before less ys xs ≡ false → xs ≡ ys
     before-total [] [] e f = refl
     before-total [] (y ∷ ys) e f = absurd (true≢false e)
@@ -63,10 +67,11 @@ module _ (P : Problem) (S : Steady P) (less : P .Step → P .Step → Bool) (W :
   unfolding after extend
   no-part a b g h k z zs e =
       let al : Allowed P (b .key) (z ∷ zs) = subst (λ x. Allowed P x (z ∷ zs)) (sym (h .key-is)) (allowed-rest P start (b .steps) (z ∷ zs) (subst (Allowed P start) e (g .allowed))) in
-      let up : size (b .key) < size (after P (b .key) (z ∷ zs)) = le-trans (S .grows b h z (al .0) (al .1)) (longer P S zs (extend P b z) (legal-extend P b h z (al .0) (al .1)) (al .2)) in
+      let up : suc (length zs) + size (b .key) ≤ size (after P (b .key) (z ∷ zs)) = longer P S (z ∷ zs) b h al in
       let to : after P (b .key) (z ∷ zs) ≡ b .key =
       ap (λ x. after P x (z ∷ zs)) (h .key-is) ∙ sym (after-append P start (b .steps) (z ∷ zs)) ∙ ap (after P start) (sym e) ∙ sym (g .key-is) ∙ k in
-      lt-irrefl _ (le-trans up (le-of-eq (ap size to)))
+      let same-size : size (after P (b .key) (z ∷ zs)) ≡ size (b .key) = ap size to in
+      omega arith
 
   -- two states with one key after the same gain, their steps now compared by r
   after-gain : (g : Key → ℤ) (r : Bool) (a b : St P) → a .key ≡ b .key → (before less (a .steps) (b .steps) ≡ false → r ≡ false) → better a b ≡ false
@@ -76,6 +81,7 @@ module _ (P : Problem) (S : Steady P) (less : P .Step → P .Step → Bool) (W :
       ∙ ap₂ (λ c d. lex c d r) (ltZ-add (g (a .key)) (b .score) (a .score)) (ltZ-add (g (a .key)) (a .score) (b .score))
       ∙ lex-rest (ltZ (b .score) (a .score)) (ltZ (a .score) (b .score)) (before less (a .steps) (b .steps)) r (λ _ _. f) (sym (is a b) ∙ e)
 
+  -- the laws
   pub ranked : Ranked P
   unfolding extend closed more
   ranked =

@@ -1,4 +1,3 @@
-pub mod General
 pub mod Highest
 pub mod Add
 pub mod Loops
@@ -13,4 +12,5 @@ pub mod ByScore
 pub mod Lexical
 pub mod Array
 pub mod Trace
+pub mod Bounds
 pub mod Theorems

@@ -11,14 +11,17 @@ use Rattle.search_theory.proofs.Add.{add-longer}
 use Rattle.search_theory.proofs.Loops.{grow-ind, sweep-ind, level-ind}
 
 module _ (P : Problem) where
-  open Problem P using (Step, same, options, size, n, inBeam)
+  open Problem P using (Step, n)
 
+  -- nor do the extensions of a state
   pub grow-longer : (q : St P) (ps : List Step) (l : List (St P)) → length l ≤ length (grow P q ps l)
   grow-longer q ps l = grow-ind P (λ r. length l ≤ length r) q ps (λ p _ _ r h. le-trans h (add-longer P _ r)) l (le-refl _)
 
+  -- nor does a sweep
   pub sweep-longer : (i : ℕ) (set qs l : List (St P)) → length l ≤ length (sweep P i set qs l)
   sweep-longer i set qs l = sweep-ind P (λ r. length l ≤ length r) i set qs (λ q _ _ p _ _ r h. le-trans h (add-longer P _ r)) l (le-refl _)
 
+  -- nor do the levels
   pub upto-longer : (i j : ℕ) → i ≤ j → length (upto P i) ≤ length (upto P j)
   unfolding upto
   upto-longer i =

@@ -14,7 +14,7 @@ use Rattle.search_theory.specs.Search.{Hypothesis, Problem, wins, highes
 use Rattle.search_theory.specs.Loops.{grow, visit, sweep, closing, pick}
 
 module _ (P : Problem) where
-  open Problem P using (Key, Step, options, may, size, n, close, better, inBeam)
+  open Problem P using (Step, options, may, size, inBeam)
 
   add-append : (xs ys l : List (St P)) → addAll P (xs ++ ys) l ≡ addAll P ys (addAll P xs l)
   unfolding addAll
@@ -49,6 +49,7 @@ module _ (P : Problem) where
   unfolding level beam setOf Added
   level-sweep i l = sweep-is i (setOf P i l) l l
 
+  -- so a sweep over the list of level i makes the next
   pub upto-sweep : (i : ℕ) → sweep P i (setOf P i (upto P i)) (upto P i) (upto P i) ≡ upto P (suc i)
   unfolding upto
   upto-sweep i = sym (level-sweep i (upto P i))
@@ -62,6 +63,7 @@ module _ (P : Problem) where
   grow-ind Inv q (p ∷ ps) st l h =
       grow-ind Inv q ps (λ p′ m. st p′ (List·Memᴰ·tail m)) _ (if-ind (may (q .key) p) Inv (λ e. st p (List·Memᴰ·head refl) e l h) (λ e. h))
 
+  -- by a sweep
   pub sweep-ind : (Inv : List (St P) → Type 0) (i : ℕ) (set qs : List (St P))
       → ((q : St P) → List·Memᴰ q qs → size (q .key) ≡ i → (p : Step) → List·Memᴰ p options → may (q .key) p ≡ true → (l : List (St P)) → Inv l → Inv (add P (extend P q p) l))
       → (l : List (St P)) → Inv l → Inv (sweep P i set qs l)
@@ -73,6 +75,7 @@ module _ (P : Problem) where
       (λ e. if-ind (inBeam set q) Inv (λ _. grow-ind Inv q options (st q (List·Memᴰ·head refl) (eqb-true _ _ e)) l h) (λ _. h))
       (λ _. h))
 
+  -- by a level
   pub level-ind : (Inv : List (St P) → Type 0) (i : ℕ) (l : List (St P))
       → ((q : St P) → List·Memᴰ q l → size (q .key) ≡ i → (p : Step) → List·Memᴰ p options → may (q .key) p ≡ true → (l′ : List (St P)) → Inv l′ → Inv (add P (extend P q p) l′))
       → Inv l → Inv (level P i l)
@@ -80,6 +83,7 @@ module _ (P : Problem) where
 
 -- ---- the answer
 module _ {Key Step : Type 0} (size : Key → ℕ) (n : ℕ) (close : Key → ℤ) (better : Hypothesis Key Step → Hypothesis Key Step → Bool) where
+  -- one pass with a test of the set is the best of the set, closed
   pub pick-is : (b : Option (Hypothesis Key Step)) (l : List (Hypothesis Key Step))
       → pick size n close better b l ≡ highest better b (map (closing close) (keep (λ s. eqb (size (s .key)) n) l))
   unfolding pick highest
@@ -90,6 +94,7 @@ module _ {Key Step : Type 0} (size : Key → ℕ) (n : ℕ) (close : Key → ℤ
       (λ c. pick size n close better (cond c (wins better b (closing close s)) b) l ≡ highest better b (map (closing close) (cond c (s ∷ rest) rest)))
       (λ _. pick-is (wins better b (closing close s)) l) (λ _. pick-is b l)
 
+-- so the answer is picked in one pass over the last list
 pub best-pick : (P : Problem) → best P ≡ pick (P .size) (P .n) (P .close) (P .better) none (run P)
 unfolding best setOf closed
 best-pick P = sym (pick-is (P .size) (P .n) (P .close) (P .better) none (run P))

@@ -13,15 +13,15 @@ use Rattle.laws.proofs.Tests.{if-ind, climb}
 use Rattle.search_theory.specs.Search.{Problem, St, first, extend, add, setOf, upto, run, closed, best}
 use Rattle.search_theory.specs.Loops.{grow, visit, sweep}
 use Rattle.search_theory.specs.Statements.{after, Allowed, of, Legal, Steady, Ranked, Covered, Unpruned}
-use Rattle.search_theory.proofs.Add.{self, cover-new, cover-add}
 use Rattle.search_theory.proofs.Highest as H
+use Rattle.search_theory.proofs.Add.{self, cover-new, cover-add}
 use Rattle.search_theory.proofs.Loops.{grow-ind, sweep-ind, level-ind, upto-sweep}
 use Rattle.search_theory.proofs.Sound.{legal-first, legal-extend, legal-of, of-legal, upto-legal, sound, mem-set, best-from, best-none}
 use Rattle.search_theory.proofs.Sets.{settled, one-key, distinct}
 
 module _ (P : Problem) (S : Steady P) (R : Ranked P) where
-  open Problem P using (Key, Step, same, start, options, may, next, size, n, better, inBeam)
-  open Steady S using (same-eq, grows, bound)
+  open Problem P using (Step, start, options, may, next, size, n, better, inBeam)
+  open Steady S using (grows, bound)
   open Ranked R using (asym, ntrans, mono, mono-close)
 
   -- ---- what is covered stays covered
@@ -106,6 +106,7 @@ module _ (P : Problem) (S : Steady P) (R : Ranked P) where
     unfolding upto
     begun = List·Memᴰ·head refl
 
+    -- each allowed sequence has a state with its key that is not worse
     pub complete : (ys : List Step) → Allowed P start ys → Covered P (run P) (of P ys)
     unfolding first run
     complete ys a = finish (along ys (first P) (legal-first P) (upto-cover (first P) 0 n zero-le (self P S R begun)) a)

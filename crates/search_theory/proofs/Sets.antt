@@ -1,42 +1,45 @@
 -- With the laws of keys and sizes, for any beam: no two states have the same key, and a set is settled when the search comes to it.
-use Prim.Native.Nat.{ℕ, zero, suc, _<_, _≤_, suc-le-suc}
+use Prim.Native.Nat.{ℕ, zero, suc, _+_, _<_, _≤_, suc-le-suc}
 use mathlib.Core.Path.{_≡_, refl, sym, _∙_, ap, subst}
 use mathlib.Core.Bool.{Bool, false}
 use mathlib.Core.Logic.{_⊎_, inl, inr}
 use mathlib.Core.List.{List, [], _∷_, List·Memᴰ, Memᴰ·cast, Memᴰ·map, List·Memᴰ·cases-cons, List·Memᴰ·not-nil}
-use native.Mathlib.Nat.{le-refl, le-trans, le-of-eq, le-of-lt, le-suc, lt-irrefl}
+use native.Mathlib.Nat.{le-trans, le-of-eq, le-suc, lt-irrefl}
 use native.Mathlib.Omega.{arith}
 use borrow.Author.Tests.{le-leb, lt-leb, ne-eqb}
 use lib.Dec.{eqb, leb}
+use lib.ListN.{length}
 use Rattle.laws.specs.Lists.{keep, Distinct}
 use Rattle.laws.proofs.Tests.{climb}
 use Rattle.search_theory.specs.Search.{Problem, St, extend, setOf, upto, run}
 use Rattle.search_theory.specs.Statements.{after, Allowed, Legal, Steady, keys, small}
+use Rattle.laws.proofs.Lists.{mem-keep, keep-mem}
 use Rattle.search_theory.proofs.Add.{distinct-add, keep-add}
-use Rattle.search_theory.proofs.General.{mem-keep, keep-mem}
 use Rattle.search_theory.proofs.Loops.{level-ind}
 use Rattle.search_theory.proofs.Sound.{legal-extend, upto-legal}
 
 module _ (P : Problem) (S : Steady P) where
-  open Problem P using (Key, Step, same, start, options, may, next, size, n, better)
-  open Steady S using (same-eq, same-refl, grows)
+  open Problem P using (Step, size, n)
+  open Steady S using (grows)
 
-  -- the size grows along a sequence
-  pub longer : (ys : List Step) (u : St P) → Legal P u → Allowed P (u .key) ys → size (u .key) ≤ size (after P (u .key) ys)
+  -- the size grows along a sequence, by one for each step at least
+  pub longer : (ys : List Step) (u : St P) → Legal P u → Allowed P (u .key) ys → length ys + size (u .key) ≤ size (after P (u .key) ys)
   unfolding after extend
-  longer [] u g a = le-refl _
-  longer (p ∷ ys) u g a = le-trans (le-of-lt (grows u g p (a .0) (a .1))) (longer ys (extend P u p) (legal-extend P u g p (a .0) (a .1)) (a .2))
+  longer [] u g a = omega arith
+  longer (p ∷ ys) u g a = omega (arith, grows u g p (a .0) (a .1), longer ys (extend P u p) (legal-extend P u g p (a .0) (a .1)) (a .2))
 
   -- ---- the keys are different
 
+  -- at each level
   pub upto-distinct : (i : ℕ) → Distinct (keys P (upto P i))
   unfolding upto
   upto-distinct zero = (λ m. List·Memᴰ·not-nil m, tt)
   upto-distinct (suc i) = level-ind P (λ l. Distinct (keys P l)) i (upto P i) (λ q _ _ p _ _ l d. distinct-add P S _ l d) (upto-distinct i)
 
+  -- and at the end
   pub distinct : Distinct (keys P (run P))
   unfolding run
-  distinct = upto-distinct n
+  distinct = upto-distinct _
 
   -- so two states of one list with one key are one
   pub one-key : (l : List (St P)) → Distinct (keys P l) → (t u : St P) → List·Memᴰ t l → List·Memᴰ u l → t .key ≡ u .key → t ≡ u
@@ -58,9 +61,11 @@ module _ (P : Problem) (S : Steady P) where
       (λ j h e. level-ind P (λ l. keep (λ s. f (size (s .key))) l ≡ keep (λ s. f (size (s .key))) (upto P i)) j (upto P j)
       (λ q m z p o y l k. keep-add P S f (extend P q p) (no-f _ (le-trans (suc-le-suc (le-trans h (le-of-eq (sym z)))) (grows q (upto-legal P j q m) p o y))) l ∙ k) e)
 
+  -- the sets 0 to i together
   pub upto-small : (i j : ℕ) → i ≤ j → small P i (upto P j) ≡ small P i (upto P i)
   upto-small i = upto-keep (λ m. leb m i) i (λ m h. lt-leb m i h)
 
+  -- set i alone
   pub upto-set : (i j : ℕ) → i ≤ j → setOf P i (upto P j) ≡ setOf P i (upto P i)
   unfolding setOf
   upto-set i = upto-keep (λ m. eqb m i) i (λ m h. ne-eqb m i (λ e. lt-irrefl i (subst (λ (x : ℕ). i < x) e h)))
@@ -79,4 +84,4 @@ module _ (P : Problem) (S : Steady P) where
   pub settled : (i j : ℕ) → i ≤ j → (t : St P) → size (t .key) ≤ i → List·Memᴰ t (upto P j) → List·Memᴰ t (upto P i)
   settled i j h t k m =
       let f : St P → Bool = λ s. leb (size (s .key)) i in
-      keep-mem f (upto P i) (subst (List·Memᴰ t) (upto-small i j h) (mem-keep f (le-leb _ i k) (upto P j) m)) .0
+      keep-mem f (upto P i) (subst (List·Memᴰ t) (upto-small i j h) (mem-keep f (upto P j) m (le-leb _ i k))) .0

@@ -11,13 +11,13 @@ use lib.Dec.{eqb}
 use lib.IntN.{_+ℤ_, +ℤ-idl, +ℤ-idr, +ℤ-assoc}
 use Rattle.search_theory.specs.Search.{Problem, St, first, extend, setOf, level, upto, run, closed, best}
 use Rattle.search_theory.specs.Statements.{after, total, Allowed, of, Legal}
-use Rattle.search_theory.proofs.Add.{mem-add}
-use Rattle.search_theory.proofs.General.{keep-mem, mem-keep}
+use Rattle.laws.proofs.Lists.{mem-keep, keep-mem}
 use Rattle.search_theory.proofs.Highest.{highest-mem, highest-none}
+use Rattle.search_theory.proofs.Add.{mem-add}
 use Rattle.search_theory.proofs.Loops.{level-ind}
 
 module _ (P : Problem) where
-  open Problem P using (Key, Step, same, start, options, may, next, gain, size, n, better)
+  open Problem P using (Key, Step, start, options, may, next, gain, size, n, better)
 
   -- ---- one sequence after another
   pub after-append : (k : Key) (xs ys : List Step) → after P k (xs ++ ys) ≡ after P (after P k xs) ys
@@ -25,16 +25,19 @@ module _ (P : Problem) where
   after-append k [] ys = refl
   after-append k (x ∷ xs) ys = after-append (next k x) xs ys
 
+  -- the gains add up
   pub total-append : (k : Key) (xs ys : List Step) → total P k (xs ++ ys) ≡ total P k xs +ℤ total P (after P k xs) ys
   unfolding after total
   total-append k [] ys = sym (+ℤ-idl _)
   total-append k (x ∷ xs) ys = ap (λ z. gain k x +ℤ z) (total-append (next k x) xs ys) ∙ sym (+ℤ-assoc (gain k x) (total P (next k x) xs) (total P (after P (next k x) xs) ys))
 
+  -- what is allowed may go on with what is allowed from there
   pub allowed-append : (k : Key) (xs ys : List Step) → Allowed P k xs → Allowed P (after P k xs) ys → Allowed P k (xs ++ ys)
   unfolding after
   allowed-append k [] ys a b = b
   allowed-append k (x ∷ xs) ys a b = (a .0, a .1, allowed-append (next k x) xs ys (a .2) b)
 
+  -- and the rest of what is allowed is
   pub allowed-rest : (k : Key) (xs ys : List Step) → Allowed P k (xs ++ ys) → Allowed P (after P k xs) ys
   unfolding after
   allowed-rest k [] ys a = a
@@ -45,6 +48,7 @@ module _ (P : Problem) where
   unfolding first after total
   legal-first = record { allowed = tt; key-is = refl; score-is = refl }
 
+  -- a step that may keeps a state legal
   pub legal-extend : (q : St P) → Legal P q → (p : Step) → List·Memᴰ p options → may (q .key) p ≡ true → Legal P (extend P q p)
   unfolding extend after total
   legal-extend q g p m y =
@@ -59,6 +63,7 @@ module _ (P : Problem) where
   unfolding of
   legal-of s g = λ i. record { key = g .key-is i; score = g .score-is i; steps = s .steps }
 
+  -- the state of an allowed sequence is legal
   pub of-legal : (ys : List Step) → Allowed P start ys → Legal P (of P ys)
   unfolding of
   of-legal ys a = record { allowed = a; key-is = refl; score-is = refl }
@@ -72,18 +77,20 @@ module _ (P : Problem) where
       (λ q m _ p o y l h s m′. ⊎-elim (h s) (λ e. subst (Legal P) (sym e) (legal-extend q (upto-legal i q m) p o y)) (mem-add P _ l m′))
       (upto-legal i) s m
 
+  -- and at the end
   pub sound : (s : St P) → List·Memᴰ s (run P) → Legal P s
   unfolding run
-  sound = upto-legal n
+  sound = upto-legal _
 
   -- ---- members of a set
   pub set-mem : (i : ℕ) (l : List (St P)) {s : St P} → List·Memᴰ s (setOf P i l) → List·Memᴰ s l × (size (s .key) ≡ i)
   unfolding setOf
   set-mem i l m = let r = keep-mem (λ (s : St P). eqb (size (s .key)) i) l m in (r .0, eqb-true _ _ (r .1))
 
+  -- and what is of that size is in the set
   pub mem-set : (i : ℕ) (l : List (St P)) {s : St P} → List·Memᴰ s l → size (s .key) ≡ i → List·Memᴰ s (setOf P i l)
   unfolding setOf
-  mem-set i l m e = mem-keep (λ (s : St P). eqb (size (s .key)) i) (eq-eqb _ _ e) l m
+  mem-set i l m e = mem-keep (λ (s : St P). eqb (size (s .key)) i) l m (eq-eqb _ _ e)
 
   -- the answer is a state of the last set, closed
   pub best-from : (t : St P) → best P ≡ some t → (s : St P) × List·Memᴰ s (setOf P n (run P)) × (t ≡ closed P s)
@@ -93,6 +100,7 @@ module _ (P : Problem) where
       (λ m. let r = Memᴰ·of-map (closed P) (setOf P n (run P)) m in (r .0, r .1, sym (r .2)))
       (highest-mem better none (map (closed P) (setOf P n (run P))) t e)
 
+  -- so it is legal
   pub best-sound : (t : St P) → best P ≡ some t → (s : St P) × List·Memᴰ s (setOf P n (run P)) × Legal P s × (t ≡ closed P s)
   best-sound t e = let r = best-from t e in (r .0, r .1, sound (r .0) (set-mem n (run P) (r .1) .0), r .2)
 

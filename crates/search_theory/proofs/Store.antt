@@ -5,8 +5,8 @@ use mathlib.Core.Bool.{true, false, cond, true≢false, false≢true}
 use mathlib.Core.List.{List, [], _∷_}
 use mathlib.Core.Option.{Option, none, some, bind}
 use native.Mathlib.Nat.{le-trans, le-of-eq}
-use borrow.Author.Tests.{leb-true, leb-false, ltb-true, ltb-false, le-leb, lt-leb}
 use native.Mathlib.Omega.{arith}
+use borrow.Author.Tests.{leb-true, leb-false, ltb-true, ltb-false, le-leb, lt-leb}
 use lib.Dec.{eqb, leb, ltb}
 use lib.ListN.{length}
 use Rattle.laws.proofs.Tests.{if-ind, bool-ind, by-test}
@@ -38,9 +38,9 @@ bind-fits cap f g longer is l =
     (λ e. ap (λ o. bind o f) (fits-no cap l (leb-false _ _ e)) ∙ sym (fits-no cap (g l) (le-trans (leb-false _ _ e) (longer l))))
 
 module _ (P : Problem) where
-  open Problem P using (Key, Step, same, options, may, size, n, better, inBeam)
+  open Problem P using (Step, same, options, may, size, n, better, inBeam)
 
-  -- a known key takes no place more, a new one takes one
+  -- a known key takes no place more
   pub known-same : (s : St P) (l : List (St P)) → known P (s .key) l ≡ true → length (add P s l) ≡ length l
   unfolding known add
   known-same s [] e = absurd (false≢true e)
@@ -48,6 +48,7 @@ module _ (P : Problem) where
       bool-ind (same (t .key) (s .key)) (λ c. cond c true (known P (s .key) l) ≡ true → length (cond c (cond (better s t) s t ∷ l) (t ∷ add P s l)) ≡ suc (length l))
       (λ _ _. refl) (λ _ h. ap suc (known-same s l h)) e
 
+  -- a new one takes one
   pub unknown-more : (s : St P) (l : List (St P)) → known P (s .key) l ≡ false → length (add P s l) ≡ suc (length l)
   unfolding known add
   unknown-more s [] e = refl
@@ -95,10 +96,12 @@ module _ (P : Problem) where
       ∙ bind-fits cap (λ l. sweepIn P cap i (setOf P i l) l l) (λ l. sweep P i (setOf P i l) l l) (λ l. sweep-longer P i (setOf P i l) l l) (λ l. sweepIn-fits cap i (setOf P i l) l l) (upto P i)
       ∙ ap (fits cap) (upto-sweep P i)
 
+  -- the store is never full when a new key comes, if it holds the states of the search
   pub roomy : (cap : ℕ) → 1 ≤ cap → length (run P) ≤ cap → uptoIn P cap n ≡ some (run P)
   unfolding run
   roomy cap h k = uptoIn-fits cap n h ∙ fits-yes cap (upto P n) k
 
+  -- and it is full when some new key comes, if it does not
   pub full : (cap : ℕ) → 1 ≤ cap → cap < length (run P) → uptoIn P cap n ≡ none
   unfolding run
   full cap h k = uptoIn-fits cap n h ∙ fits-no cap (upto P n) k

@@ -15,10 +15,10 @@ use Rattle.search_theory.specs.Loops.{grow, sweep}
 use Rattle.search_theory.specs.Orders.{ahead}
 use Rattle.search_theory.specs.Statements.{after, total, Allowed, of, Legal, Reachable, keys, small, Covered, Steady, Ranked, Unpruned, withBeam, uptoIn}
 use Rattle.search_theory.proofs.Sound as Sound
+use Rattle.search_theory.proofs.Longer as Longer
 use Rattle.search_theory.proofs.Sets as Sets
 use Rattle.search_theory.proofs.Optimal as Optimal
 use Rattle.search_theory.proofs.Count as Count
-use Rattle.search_theory.proofs.Longer as Longer
 use Rattle.search_theory.proofs.Store as Store
 use Rattle.search_theory.proofs.Beams as Beams
 use Rattle.search_theory.proofs.ByScore as ByScore
@@ -113,11 +113,11 @@ module _ (P : Problem) where
 -- ---- 5. Another beam that drops nothing either makes no difference
 module _ (P : Problem) (b : List (St P) → St P → Bool) (U : Unpruned P) (U′ : Unpruned (withBeam P b)) where
   -- to the states
-  pub same-run : run (withBeam P b) ≡ run P
+  pub same-run : run P ≡ run (withBeam P b)
   same-run = Beams.same-run P b U U′
 
   -- to the answer
-  pub same-best : best (withBeam P b) ≡ best P
+  pub same-best : best P ≡ best (withBeam P b)
   same-best = Beams.same-best P b U U′
 
 -- ---- 6. Two orders

@@ -6,8 +6,8 @@ use mathlib.Core.Path.{_≡_, refl, sym, _∙_, ap, subst, subst₂}
 use mathlib.Core.Bool.{true, cond, true≢false}
 use mathlib.Core.Logic.{_≢_, _⊎_, inl, inr, ⊎-elim}
 use mathlib.Core.List.{List, [], _∷_, _++_, append-assoc, List·Memᴰ}
-use native.Mathlib.Nat.{le-trans, le-of-eq, lt-of-le-of-lt, not-suc-le-zero, le-of-suc-le-suc}
 use native.Mathlib.Decide.{ℕ-discrete}
+use native.Mathlib.Nat.{le-trans, le-of-eq, lt-of-le-of-lt, not-suc-le-zero, le-of-suc-le-suc}
 use native.Mathlib.Omega.{arith}
 use borrow.Author.Tests.{eqb-true, eq-eqb}
 use lib.Dec.{eqb}
@@ -22,6 +22,7 @@ use Rattle.search_theory.proofs.Sets.{longer}
 module _ (P : Problem) where
   open Problem P using (Step, size)
 
+  -- the start state alone needs no pointer
   pub traced-begin : (par : ℕ → ℕ) (via : ℕ → Step) (d : St P) → Traced P 0 (first P ∷ []) par via d
   traced-begin par via d = record { root = refl; links = λ j h. inl (omega arith) }
 
@@ -46,7 +47,7 @@ module _ (P : Problem) where
       (t .links j h))
 
 module _ (P : Problem) (S : Steady P) where
-  open Problem P using (Key, Step, start, options, may, next, size)
+  open Problem P using (Step, start, options, may, next, size)
 
   module _ (i : ℕ) (l l′ : List (St P)) (par par′ : ℕ → ℕ) (via via′ : ℕ → Step) (d : St P) (t : Traced P i l par via d)
       (b : ℕ) (p : Step) (m : ℕ) (hb : b < length l) (zb : size (getD l b d .key) ≡ i)
@@ -93,7 +94,7 @@ module _ (P : Problem) (S : Steady P) where
   unfolding extend first
   above i q g z p o y =
       let h : size (q .key) < size (next (q .key) p) = S .grows q g p o y in
-      let k : size start ≤ size (after P start (q .steps)) = longer P S (q .steps) (first P) (legal-first P) (g .allowed) in
+      let k : length (q .steps) + size start ≤ size (after P start (q .steps)) = longer P S (q .steps) (first P) (legal-first P) (g .allowed) in
       let e : size (q .key) ≡ size (after P start (q .steps)) = ap size (g .key-is) in
       (omega arith, omega arith)
 

@@ -9,7 +9,7 @@ use lib.IntN.{ℤ, _+ℤ_}
 use Rattle.search_theory.specs.Search.{Hypothesis, Problem, wins, St, extend, add}
 
 module _ (P : Problem) where
-  open Problem P using (Key, Step, options, may, size, inBeam)
+  open Problem P using (Step, options, may, size, inBeam)
 
   -- q is extended by each of the steps that may
   unfoldable pub grow : St P → List Step → List (St P) → List (St P)

@@ -1,7 +1,7 @@
 -- The dynamic-programming search of Collins' notes on phrase-based decoding (Figures 3 to 5), over any keys and steps.
 -- The sets of the notes stand in ONE list, in the order in which their states were entered; set i is a part of it.
 use Prim.Native.Nat.{ℕ, zero, suc}
-use mathlib.Core.Bool.{Bool, true, false, cond}
+use mathlib.Core.Bool.{Bool, cond}
 use mathlib.Core.List.{List, [], _∷_, _++_, map}
 use mathlib.Core.Option.{Option, none, some}
 use lib.Dec.{eqb}

@@ -94,20 +94,25 @@ module _ (P : Problem) where
   known k [] = false
   known k (t ∷ l) = cond (same (t .key) k) true (known k l)
 
+  -- Add, where a new key needs a free place
   unfoldable pub put : ℕ → St P → List (St P) → Option (List (St P))
   put cap s l = cond (known (s .key) l) (some (add P s l)) (cond (ltb (length l) cap) (some (add P s l)) none)
 
+  -- `grow` of Loops.antt with it
   unfoldable pub growIn : ℕ → St P → List Step → List (St P) → Option (List (St P))
   growIn cap q [] l = some l
   growIn cap q (p ∷ ps) l = bind (cond (may (q .key) p) (put cap (extend P q p) l) (some l)) (growIn cap q ps)
 
+  -- `visit` with it
   unfoldable pub visitIn : ℕ → ℕ → List (St P) → St P → List (St P) → Option (List (St P))
   visitIn cap i set q l = cond (eqb (size (q .key)) i) (cond (inBeam set q) (growIn cap q options l) (some l)) (some l)
 
+  -- `sweep` with it
   unfoldable pub sweepIn : ℕ → ℕ → List (St P) → List (St P) → List (St P) → Option (List (St P))
   sweepIn cap i set [] l = some l
   sweepIn cap i set (q ∷ qs) l = bind (visitIn cap i set q l) (sweepIn cap i set qs)
 
+  -- the states once the sets below i were extended, if they fit all the time
   unfoldable pub uptoIn : ℕ → ℕ → Option (List (St P))
   uptoIn cap zero = some (first P ∷ [])
   uptoIn cap (suc i) = bind (uptoIn cap i) (λ l. sweepIn cap i (setOf P i l) l l)

@@ -2,7 +2,6 @@
 use mathlib.Core.Path.{refl, ap}
 use mathlib.Core.Bool.{Bool}
 use mathlib.Core.List.{List}
-use Rattle.laws.specs.Bits.{bitsOf}
 use Rattle.laws.proofs.Bits.{bits-zero}
 use Rattle.notes.specs.State.{Key, keyOf, start}
 use Rattle.notes.proofs.State.start.Statement.{statement}
