@@ -26,7 +26,7 @@ use Rattle.notes.specs.declared.Step.{Step}
 use Rattle.notes.proofs.Chains.{first-passes, rest-passes, test-passes, skip, chain-to, test-to, done-passes, done-is, refused-is, reply-refused}
 use Rattle.notes.proofs.Valid.{proposal-valid}
 use Rattle.notes.proofs.Ranges.{loaded-ranged}
-use Rattle.notes.proofs.Answers.{answer-last, answer-derives, answer-none, answer-best, none-valid, last-valid, valid-bound}
+use Rattle.notes.proofs.Answers.{covered-to, entered-bound, answer-last, answer-derives, answer-none, answer-best, none-valid, last-valid, valid-bound}
 use Rattle.notes.proofs.Widths.{wide-entered, wide-answer, wide-last}
 
 -- ════ the questions that come before
@@ -96,6 +96,20 @@ module _ (loaded : List ℤ) (direction : List ℕ) where
       → scoreProposal loaded direction steps ≡ done (scoreOf book steps)
   unfolding scoreProposal proposalRefusal
   valid-scored b d steps v = rw (b, d, proposal-valid book direction steps .1 v)
+
+  -- ════ "No score passes .. 298,240,000 on either side of 0.": neither a state's nor a valid derivation's
+
+  module _ (b : bookRefusal loaded ≡ 0) (d : directionRefusal direction ≡ 0) (width : ℤ) where
+    pub state-bound : (q : Hyp) → List·Memᴰ q (entered book direction width) → Within scoreBound (q .score)
+    state-bound q m =
+        let n = direction-to direction d in
+        let c = covered-to book direction width q m in
+        within-mono (omega arith) (entered-bound book direction width (loaded-ranged loaded b) q m)
+
+    pub derivation-bound : (steps : List Step) → isValid book direction steps ≡ true → Within scoreBound (scoreOf book steps)
+    derivation-bound steps v =
+        let n = direction-to direction d in
+        within-mono (omega arith) (valid-bound book direction width (loaded-ranged loaded b) steps v)
 
   -- ════ decoding, with any width
 
@@ -170,8 +184,8 @@ module _ (loaded : List ℤ) (direction : List ℕ) where
         let r = answered a e in
         let d = decode-derives a e in
         let b = first-passes (bookRefusal loaded) _ (r .before) in
-        let n = direction-to direction (first-passes (directionRefusal direction) _ (rest-passes (bookRefusal loaded) _ (r .before))) in
-        subst (Within scoreBound) (d .1 .steps-score) (within-mono (omega arith) (valid-bound book direction width (loaded-ranged loaded b) (d .0) (d .1 .steps-valid)))
+        let n = first-passes (directionRefusal direction) _ (rest-passes (bookRefusal loaded) _ (r .before)) in
+        subst (Within scoreBound) (d .1 .steps-score) (derivation-bound b n width (d .0) (d .1 .steps-valid))
 
     -- "13 only when the store is too small for the states entered", and always then
     pub decode-full : beforeSearch loaded direction width lent ≡ 0 → (decode loaded direction width lent ≡ refused 13) ↔ (lent .store / 8 < length (entered book direction width))
