@@ -63,12 +63,14 @@ isT line = isKind 3 line
 abbrev pub isPhraseLength : ℤ → Bool
 isPhraseLength z = withinℤ (pos 1) (pos 8) z
 
--- "So the three kinds take 4, a + b + 4 and 5 numbers"; 0 for an unknown kind, and where a or b is out of range or missing
+-- a + b + 4; 0 where a or b is out of range or missing
+abbrev pub phraseSize : List ℤ → ℕ
+phraseSize line =
+    cond (isPhraseLength (numberAt line 1) && isPhraseLength (numberAt line 2)) (naturalAt line 1 + naturalAt line 2 + 4) 0
+
+-- "So the three kinds take 4, a + b + 4 and 5 numbers"; 0 for an unknown kind
 unfoldable pub sizeOf : List ℤ → ℕ
-sizeOf line =
-    cond (isB line) 4
-    (cond (isP line) (cond (isPhraseLength (numberAt line 1) && isPhraseLength (numberAt line 2)) (naturalAt line 1 + naturalAt line 2 + 4) 0)
-    (cond (isT line) 5 0))
+sizeOf line = cond (isB line) 4 (cond (isP line) (phraseSize line) (cond (isT line) 5 0))
 
 -- question 2, of a line: "Has each line the fields of its kind, with a and b in range?"
 unfoldable pub isWhole : List ℤ → Bool
