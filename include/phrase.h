@@ -1,0 +1,54 @@
+/* Putting a dispenser direction into the carer's language: the calls for C.
+ *
+ * A list is lent as a pointer and its length. Every call may be handed any list and any number: it answers, or refuses with the number of the
+ * question whose answer was no (docs/REFUSALS.md). No call keeps a pointer, allocates, or touches a list beyond its length.
+ *
+ * A loaded book is a list of signed 32-bit numbers. Calls after phrase_read_book are lent just the numbers that it wrote.
+ * A step is three unsigned 16-bit numbers: first, last, entry. Positions and entries count from 1. Numbers left over behind the last whole step
+ * are no place. A store is a list of signed 64-bit numbers, eight to a state.
+ * A report list gets as many of its values as it has places, and nothing on a refusal. */
+#ifndef PHRASE_H
+#define PHRASE_H
+
+#include <stddef.h>
+#include <stdint.h>
+
+#ifdef __cplusplus
+extern "C" {
+#endif
+
+/* Reads a book's text. Returns how many numbers it wrote to the front of `book`, or minus the refusal, 1 to 7.
+ * Places of `book` behind those numbers are as before; after a refusal all of it is. */
+int64_t phrase_read_book(const uint8_t *text, size_t text_len, int32_t *book, size_t book_len);
+
+/* Reads a direction's text. Returns how many words it wrote to the front of `direction`, or minus the refusal, 8, 9, 10 or 7.
+ * Places of `direction` behind those words are as before; after a refusal all of it is. */
+int64_t phrase_read_direction(const uint8_t *text, size_t text_len, uint16_t *direction, size_t direction_len);
+
+/* Asks questions 2 to 6 of a loaded book. Returns 0, or the refusal. Changes nothing. */
+int32_t phrase_check_book(const int32_t *book, size_t book_len);
+
+/* Where the target words of an entry stand in a loaded book, and how many they are. For a number that is no entry, and for a list that 2 to 6
+ * refuse: the list's length, and 0. Change nothing. */
+int64_t phrase_target_start(const int32_t *book, size_t book_len, size_t entry);
+int64_t phrase_target_count(const int32_t *book, size_t book_len, size_t entry);
+
+/* Scores a proposed list of steps, of any number. Returns 0, or the refusal: 2 to 6, 9, 10, 16 to 19.
+ * report: the score. Changes nothing else. */
+int32_t phrase_score(const int32_t *book, size_t book_len, const uint16_t *direction, size_t direction_len,
+                     const uint16_t *steps, size_t steps_len, int64_t *report, size_t report_len);
+
+/* Finds the best derivation. `width` is -1 (pruning off) or the beam's width. Returns 0, or the refusal: 2 to 6, 9 to 15.
+ * On success the steps stand at the front of `steps`, their target words at the front of `words`, and the places behind them are as before;
+ * report: the score, the number of steps, of words, and of states entered.
+ * After a refusal `steps` and `words` are as before. After 13, 14, 15 and after success every number of `store` is 0; after another refusal it is as
+ * before. `steps` needs 3 numbers, and `words` 8, for each word of the direction. */
+int32_t phrase_decode(const int32_t *book, size_t book_len, const uint16_t *direction, size_t direction_len, int64_t width,
+                      uint16_t *steps, size_t steps_len, uint16_t *words, size_t words_len,
+                      int64_t *store, size_t store_len, int64_t *report, size_t report_len);
+
+#ifdef __cplusplus
+}
+#endif
+
+#endif
