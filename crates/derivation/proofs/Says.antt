@@ -1,0 +1,35 @@
+-- What a row of target words says, one word at a time.
+use Prim.Native.Nat.{ℕ, zero, suc, _+_, _*_, _%_, _≤_, _<_}
+use native.Mathlib.Nat.{mod-eq-of-lt}
+use native.Mathlib.Omega.{arith}
+use mathlib.Core.Path.{_≡_, refl, sym, _∙_, ap}
+use mathlib.Core.List.{List, [], _∷_}
+use lib.IntN.{ℤ, pos}
+use lib.ListN.{length, getD, drop, drop-of-length-le}
+use Rattle.laws.specs.Integers.{Within, natOf}
+use Rattle.laws.proofs.Bounds.{within-+, within-mono}
+use Rattle.laws.proofs.Lists.{drop-next}
+use Rattle.notes.specs.Book.{Entry}
+use Rattle.derivation.specs.Model.{Model, modelScore, sayOne, sayAll, wordIn, WordsAt, PhraseOf}
+use Rattle.derivation.specs.declared.Task.{Task}
+use Rattle.derivation.specs.declared.Said.{Said}
+
+-- the word at a place is the entry's
+pub word-is : {loaded : List ℤ} {from many : ℕ} {words : List ℕ} → WordsAt loaded from many words → (j : ℕ) → j < many → wordIn loaded (from + j) ≡ getD words j 0
+unfolding wordIn
+word-is {loaded} {from} {many} {words} w j h =
+    rw (w .word-at j h) (let k : getD words j 0 ≤ 65535 = w .word-to j h in mod-eq-of-lt (omega arith))
+
+module _ (grams : List ℤ) (t : Task) where
+  -- one word more of the row
+  pub say-next : (s : Said) (words : List ℕ) (j : ℕ) → j < length words → sayAll grams t s (drop j words) ≡ sayAll grams t (sayOne grams t s (getD words j 0)) (drop (j + 1) words)
+  unfolding sayAll
+  say-next s words j h = ap (sayAll grams t s) (drop-next words j 0 h)
+
+  pub say-end : (s : Said) (words : List ℕ) (j : ℕ) → length words ≤ j → sayAll grams t s (drop j words) ≡ s
+  unfolding sayAll
+  say-end s words j h = ap (sayAll grams t s) (drop-of-length-le words {i = j} h)
+
+  pub say-within : ((v w y : ℕ) → Within 1000000 (modelScore grams t v w y)) → (s : Said) (y j : ℕ) → Within (j * 1000000) (s .score) → Within ((j + 1) * 1000000) (sayOne grams t s y .score)
+  unfolding sayOne
+  say-within each s y j h = within-mono (omega arith) (within-+ h (each (s .word1) (s .word2) y))

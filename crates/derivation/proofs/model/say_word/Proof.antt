@@ -1,0 +1,43 @@
+-- The score of the new triple is added; both are far below what 64 bits hold.
+use borrow.Author.Needs.{needs}
+use Prim.Native.Nat.{ℕ, _+_}
+use mathlib.Core.Path.{_≡_, refl, ap, _∙_}
+use native.Mathlib.Omega.{arith}
+use lib.IntN.{ℤ, _+ℤ_}
+use mir.Syntax.{w64}
+use Rattle.laws.proofs.Got.{Got, i64, held, add, fits, kept}
+use Rattle.derivation.specs.Model.{modelScore, sayOne}
+use Rattle.derivation.specs.declared.Said.{Said}
+use Rattle.derivation.proofs.model.say_word.Statement.{statement}
+use Rattle.derivation.proofs.model.say_word.Tie as tie
+
+-- src/model.rt:20:9
+triple-score-requires : tie.Need-triple-score-requires
+triple-score-requires c κs = search needs
+
+-- what was said so far, and the score of the new triple
+total : (c : tie.After-triple-score)
+    → let a = c .before .before .before .before .before .args in
+    Got (1000000000 + 1000000) (i64 (a .s .score) +ℤ i64 (c .triple-score .result)) (a .s .score +ℤ modelScore (a .grams .now) (a .t) (a .s .word1) (a .s .word2) (a .y))
+unfolding modelScore
+total c =
+    let s = c .before .before .before .before .before in
+    let old : i64 (s .args .s .score) ≡ s .args .s .score = search needs in
+    let new : i64 (c .triple-score .result) ≡ c .triple-score .result = search needs in
+    let u : i64 (s .args .t .unseen) ≡ s .args .t .unseen = search needs in
+    let is : c .triple-score .result ≡ modelScore (s .args .grams .now) (s .args .t) (s .args .s .word1) (s .args .s .word2) (s .args .y) = rw u at (c .triple-score .ensures) in
+    add (held old (s .pre .1)) (held (new ∙ is) (s .pre .0 .scores-within (s .args .s .word1) (s .args .s .word2) (s .args .y)))
+
+-- src/model.rt:22:16
+add-t9 : tie.Need-add-t9
+add-t9 c = fits (total c) (omega arith)
+
+-- src/model.rt:14:1
+returns : tie.Need-returns
+unfolding sayOne
+returns c =
+    let s = c .before .before .before .before .before .args in
+    ap {B = Said} (λ (z : ℤ). record { score = z; word1 = s .s .word2; word2 = s .y }) (kept w64 (total c) (omega arith) .is)
+
+pub say-word-spec : {M : Type 1} → statement M
+say-word-spec = tie.close (tie.spec triple-score-requires add-t9 returns)

@@ -1,0 +1,66 @@
+-- How the lists and numbers of the code stand for the book: the language model, and an entry by its places.
+use Prim.Native.Nat.{ℕ, _+_, _%_, _≤_, _<_}
+use mathlib.Core.Path.{_≡_}
+use mathlib.Core.Bool.{true}
+use mathlib.Core.List.{List, [], _∷_}
+use lib.IntN.{ℤ, pos, _+ℤ_}
+use lib.ListN.{length, getD}
+use Rattle.laws.specs.Integers.{Within, natOf}
+use Rattle.laws.specs.Lists.{noneTwice}
+use Rattle.notes.specs.Book.{Entry}
+use Rattle.notes.specs.Derivation.{listedScore}
+use Rattle.triples.specs.Grams.{triplesIn, sameTriple, Indexed}
+use Rattle.derivation.specs.declared.Task.{Task}
+use Rattle.derivation.specs.declared.Said.{Said}
+use Rattle.derivation.specs.declared.Phrase.{Phrase}
+
+-- ════ the language model
+
+-- the score of the triple v, w, y by the lists
+unfoldable pub modelScore : List ℤ → Task → ℕ → ℕ → ℕ → ℤ
+modelScore grams t v w y = listedScore v w y (t .unseen) (triplesIn grams (t .triples))
+
+-- the lists are an index of triples, no two alike, with scores in their range
+pub record Model (grams : List ℤ) (heads links : List ℕ) (t : Task) : Type 0 where
+  pub indexed : Indexed grams heads links (t .triples)
+  pub different : noneTwice sameTriple (triplesIn grams (t .triples)) ≡ true
+  pub scores-within : (v w y : ℕ) → Within 1_000_000 (modelScore grams t v w y)
+
+-- nothing said yet, after two words
+abbrev pub silent : ℕ → ℕ → Said
+silent v w = record { score = pos 0; word1 = v; word2 = w }
+
+-- one target word more, and a row of them
+unfoldable pub sayOne : List ℤ → Task → Said → ℕ → Said
+sayOne grams t s y = record { score = s .score +ℤ modelScore grams t (s .word1) (s .word2) y; word1 = s .word2; word2 = y }
+
+unfoldable pub sayAll : List ℤ → Task → Said → List ℕ → Said
+sayAll grams t s [] = s
+sayAll grams t s (y ∷ ys) = sayAll grams t (sayOne grams t s y) ys
+
+-- ════ an entry
+
+-- the number at a place of the list as a word
+unfoldable pub wordIn : List ℤ → ℕ → ℕ
+wordIn loaded k = natOf (getD loaded k (pos 0)) % 65_536
+
+-- the words stand in the list from a place on
+pub record WordsAt (loaded : List ℤ) (from many : ℕ) (words : List ℕ) : Type 0 where
+  pub inside : from + many ≤ length loaded
+  pub many-are : many ≡ length words
+  pub few : many ≤ 8
+  pub some : 1 ≤ many
+  pub word-at : (j : ℕ) → j < many → getD loaded (from + j) (pos 0) ≡ pos (getD words j 0)
+  pub word-to : (j : ℕ) → j < many → getD words j 0 ≤ 65_535
+
+-- the places and the score are those of the entry
+pub record PhraseOf (loaded : List ℤ) (e : Entry) (p : Phrase) : Type 0 where
+  pub source-at : WordsAt loaded (p .source) (p .long) (e .source)
+  pub target-at : WordsAt loaded (p .target) (p .count) (e .target)
+  pub g-is : p .g ≡ e .g
+  pub g-within : Within 1_000_000 (e .g)
+
+-- they are those of some entry
+pub record Phrased (loaded : List ℤ) (p : Phrase) : Type 0 where
+  pub entry : Entry
+  pub is : PhraseOf loaded entry p

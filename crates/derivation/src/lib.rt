@@ -1,0 +1,30 @@
+// Steps on plain numbers: what an entry says, where it fits, what it adds to a score, and the state that it leads to.
+pub mod model;
+
+// The numbers of a book and a direction that every step needs: how many words the direction has, the reordering limit, the
+// penalty, the score of an unseen triple, how many entries and how many triples there are.
+pub struct Task {
+    pub n: usize,
+    pub limit: usize,
+    pub eta: i64,
+    pub unseen: i64,
+    pub phrases: usize,
+    pub triples: usize,
+}
+
+// What a row of target words says: the scores of the triples that they end, and the last two words.
+pub struct Said {
+    pub score: i64,
+    pub word1: u16,
+    pub word2: u16,
+}
+
+// An entry by its places in the loaded book: where its source words start and how many they are, the same of its target words,
+// and its score.
+pub struct Phrase {
+    pub source: usize,
+    pub long: usize,
+    pub target: usize,
+    pub count: usize,
+    pub g: i64,
+}

@@ -1,0 +1,59 @@
+// The language model's part of a step: the triples that a row of target words ends.
+use crate::Phrase;
+use crate::Said;
+use crate::Task;
+ghost use mathlib.Core.Path.{_≡_};
+ghost use Prim.Native.Nat.{ℕ, _+_, _*_, _≤_, _<_};
+ghost use lib.IntN.{pos};
+ghost use lib.ListN.{length, getD};
+ghost use Rattle.laws.specs.Integers.{Within};
+ghost use Rattle.notes.specs.Book.{Entry};
+ghost use Rattle.derivation.specs.Model.{Model, wordIn, silent, sayOne, sayAll, PhraseOf, Phrased};
+
+// One target word more.
+fn say_word(grams: &[i32], heads: &[u16], links: &[u16], t: Task, s: Said, y: u16) -> Said
+    requires { ⌜ Model (now grams) (now heads) (now links) t ⌝ }
+    requires { ⌜ Within 1000000000 (s .score) ⌝ }
+    ensures { λ r. ⌜ r ≡ sayOne (now (grams .entry)) t s y ⌝ }
+{
+    let old = s.score;
+    let gain = triples::triple_score(grams, heads, links, t.triples, t.unseen, s.word1, s.word2, y);
+    Said {
+        score: old + gain,
+        word1: s.word2,
+        word2: y,
+    }
+}
+
+// The number at a place of the book as a word.
+pub fn word_at(book: &[i32], k: usize) -> u16
+    requires { ⌜ k < length (now book) ⌝ }
+    ensures { λ r. ⌜ r ≡ wordIn (now (book .entry)) k ⌝ }
+{
+    let x = book[k];
+    if x < 0 {
+        return 0;
+    }
+    (x as usize % 65536) as u16
+}
+
+// What the entry's target words say after the words word1 and word2.
+pub fn say(book: &[i32], grams: &[i32], heads: &[u16], links: &[u16], t: Task, p: Phrase, word1: u16, word2: u16) -> Said
+    requires { ⌜ Model (now grams) (now heads) (now links) t ⌝ }
+    requires { ⌜ Phrased (now book) p ⌝ }
+    ensures { λ r. ⌜ ((e : Entry) → PhraseOf (now (book .entry)) e p → r ≡ sayAll (now (grams .entry)) t (silent word1 word2) (e .target)) ⌝ }
+    ensures { λ r. ⌜ Within 8000000 (r .score) ⌝ }
+{
+    let mut s = Said {
+        score: 0,
+        word1,
+        word2,
+    };
+    let mut j = 0;
+    while j < p.count {
+        let y = word_at(book, p.target + j);
+        s = say_word(grams, heads, links, t, s, y);
+        j += 1;
+    }
+    s
+}

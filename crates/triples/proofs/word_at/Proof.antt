@@ -1,0 +1,34 @@
+-- A number that is not negative is its own size, and any other counts as 0.
+use borrow.Author.Needs.{needs}
+use lib.IntN.{pos}
+use lib.ListN.{getD}
+use mir.Syntax.{w32, w64}
+use mir.Val.{SFits}
+use Rattle.laws.proofs.Integers.{nat-neg, nat-pos, nat-cast}
+use Rattle.laws.proofs.Linear.{told}
+use Rattle.triples.specs.Grams.{wordAt}
+use Rattle.triples.proofs.word_at.Statement.{statement}
+use Rattle.triples.proofs.word_at.Tie as tie
+
+mul-x : tie.Need-mul-x
+mul-x c = search needs
+
+shared-slice-copy-out-x : tie.Need-shared-slice-copy-out-x
+shared-slice-copy-out-x c = search needs
+
+fit : (c : tie.After-x) → SFits w32 (getD (c .before .args .grams .now) (c .before .args .k) (pos 0))
+fit c = told (c .x .given)
+
+cast-result : tie.Need-cast-result
+cast-result c = nat-cast (fit (c .before)) w64 tt (c .if1 .left)
+
+returns : tie.Need-returns
+unfolding wordAt
+returns c = nat-neg (fit (c .before)) (c .if1 .taken)
+
+returns-2 : tie.Need-returns-2
+unfolding wordAt
+returns-2 c = nat-pos (fit (c .before)) (c .if1 .left)
+
+pub word-at-spec : {M : Type 1} → statement M
+word-at-spec = tie.close (tie.spec mul-x shared-slice-copy-out-x cast-result returns returns-2)
