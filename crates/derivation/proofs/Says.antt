@@ -4,13 +4,17 @@ use native.Mathlib.Nat.{mod-eq-of-lt}
 use native.Mathlib.Omega.{arith}
 use mathlib.Core.Path.{_≡_, refl, sym, _∙_, ap}
 use mathlib.Core.List.{List, [], _∷_}
-use lib.IntN.{ℤ, pos}
+use lib.IntN.{ℤ, pos, _+ℤ_}
 use lib.ListN.{length, getD, drop, drop-of-length-le}
 use Rattle.laws.specs.Integers.{Within, natOf}
 use Rattle.laws.proofs.Bounds.{within-+, within-mono}
 use Rattle.laws.proofs.Lists.{drop-next}
+use Rattle.coverage.specs.Runs.{maskOf}
 use Rattle.notes.specs.Book.{Entry}
-use Rattle.derivation.specs.Model.{Model, modelScore, sayOne, sayAll, wordIn, WordsAt, PhraseOf}
+use Rattle.notes.specs.declared.State.{State}
+use Rattle.derivation.specs.Model.{Model, modelScore, silent, sayOne, sayAll, wordIn, WordsAt, PhraseOf}
+use Rattle.derivation.specs.Next.{jumpFrom, gainBy, nextState}
+use Rattle.derivation.specs.declared.Phrase.{Phrase}
 use Rattle.derivation.specs.declared.Task.{Task}
 use Rattle.derivation.specs.declared.Said.{Said}
 
@@ -33,3 +37,11 @@ module _ (grams : List ℤ) (t : Task) where
   pub say-within : ((v w y : ℕ) → Within 1000000 (modelScore grams t v w y)) → (s : Said) (y j : ℕ) → Within (j * 1000000) (s .score) → Within ((j + 1) * 1000000) (sayOne grams t s y .score)
   unfolding sayOne
   say-within each s y j h = within-mono (omega arith) (within-+ h (each (s .word1) (s .word2) y))
+
+-- a state whose fields are what the calls gave is the next one
+pub next-is : (grams : List ℤ) (t : Task) (p : Phrase) (e : Entry) (first last : ℕ) (s : State) (said : Said) (far cov : ℕ) (more score : ℤ)
+    → said ≡ sayAll grams t (silent (s .word1) (s .word2)) (e .target) → far ≡ jumpFrom (s .r) first → cov ≡ s .covered + maskOf first last
+    → more ≡ gainBy t p far said → score ≡ s .score +ℤ more
+    → _≡_ {A = State} (record { word1 = said .word1; word2 = said .word2; covered = cov; r = last; score = score }) (nextState grams t p e first last s)
+unfolding nextState
+next-is grams t p e first last s said far cov more score a b d f g = rw (g, f, d, b, a)

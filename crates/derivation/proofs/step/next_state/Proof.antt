@@ -1,0 +1,77 @@
+-- Each field of the new state is what the call before it gave.
+use borrow.Author.Needs.{needs}
+use Prim.Native.Nat.{ℕ, _+_, _≤_}
+use mathlib.Core.Path.{_≡_, refl, sym, _∙_, subst}
+use native.Mathlib.Omega.{arith}
+use lib.IntN.{ℤ, _+ℤ_}
+use mir.Syntax.{w64}
+use Rattle.laws.specs.Integers.{Within}
+use Rattle.laws.proofs.Got.{Got, i64, held, add, fits, kept}
+use Rattle.notes.specs.State.{scoreBound}
+use Rattle.derivation.proofs.Says.{next-is}
+use Rattle.derivation.proofs.step.next_state.Statement.{statement}
+use Rattle.derivation.proofs.step.next_state.Tie as tie
+
+total : (c : tie.After-covered-with)
+    → Got (scoreBound + 9320000) (i64 (c .before .before .before .before .before .before .before .before .args .s .score) +ℤ i64 (c .before .before .gain .result))
+    (c .before .before .before .before .before .before .before .before .args .s .score +ℤ c .before .before .gain .result)
+total c =
+    let b = c .before .before .before .before .before .before .before .before in
+    let old : i64 (b .args .s .score) ≡ b .args .s .score = search needs in
+    let new : i64 (c .before .before .gain .result) ≡ c .before .before .gain .result = search needs in
+    add (held old (b .pre .1 .1 .score-within)) (held new (c .before .before .gain .ensures .1))
+
+-- src/step.rt:47:9
+say-requires : tie.Need-say-requires
+say-requires c κs = search needs
+
+-- src/step.rt:48:32
+cast-jump : tie.Need-cast-jump
+cast-jump c = search needs
+
+-- src/step.rt:48:27
+jump-requires : tie.Need-jump-requires
+jump-requires c κs = search needs
+
+-- src/step.rt:48:9
+gain-requires : tie.Need-gain-requires
+gain-requires c κs =
+    let b = c .before .before .before .before .before in
+    let p = b .pre .1 .0 in
+    let j = c .jump .ensures in
+    let n = b .pre .1 .1 .near in
+    (b .pre .1 .1 .eta-within, (subst (Within 1000000) (sym (p .is .g-is)) (p .is .g-within), (omega arith, c .before .before .say .ensures .1)))
+
+-- src/step.rt:53:18
+covered-with-requires : tie.Need-covered-with-requires
+covered-with-requires c κs = search needs
+
+-- src/step.rt:54:12
+cast-t16 : tie.Need-cast-t16
+cast-t16 c = search needs
+
+-- src/step.rt:55:16
+add-t17 : tie.Need-add-t17
+add-t17 c = fits (total c) (omega arith)
+
+-- src/step.rt:41:1
+returns : tie.Need-returns
+returns c = λ e q.
+    let b = c .before .before .before .before .before .before .before .before in
+    next-is (b .args .grams .now) (b .args .t) (b .args .p) e (b .args .first) (b .args .last) (b .args .s)
+    (c .before .before .before .before .before .say .result) (c .before .before .before .jump .result) (c .covered-with .result) (c .before .before .gain .result) _
+    (c .before .before .before .before .before .say .ensures .0 e q) (c .before .before .before .jump .ensures) (c .covered-with .ensures) (c .before .before .gain .ensures .0)
+    (kept w64 (total c) (omega arith) .is)
+
+pub next-state-spec : {M : Type 1} → statement M
+next-state-spec =
+    tie.close
+    (tie.spec
+    say-requires
+    cast-jump
+    jump-requires
+    gain-requires
+    covered-with-requires
+    cast-t16
+    add-t17
+    returns)

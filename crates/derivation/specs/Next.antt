@@ -1,0 +1,42 @@
+-- The state that a step leads to, by the code's numbers.
+use Prim.Native.Nat.{ℕ, suc, _+_, _-_, _^_, _≤_, _<_}
+use mathlib.Core.List.{List}
+use lib.IntN.{ℤ, pos, _+ℤ_, _*ℤ_}
+use Rattle.laws.specs.Integers.{Within}
+use Rattle.coverage.specs.Runs.{maskOf}
+use Rattle.notes.specs.Book.{Entry}
+use Rattle.notes.specs.State.{scoreBound}
+use Rattle.notes.specs.declared.State.{State}
+use Rattle.derivation.specs.Model.{silent, sayAll}
+use Rattle.derivation.specs.declared.Task.{Task}
+use Rattle.derivation.specs.declared.Said.{Said}
+use Rattle.derivation.specs.declared.Phrase.{Phrase}
+
+-- |r + 1 − first|
+abbrev pub jumpFrom : ℕ → ℕ → ℕ
+jumpFrom r first = (suc r - first) + (first - suc r)
+
+unfoldable pub gainBy : Task → Phrase → ℕ → Said → ℤ
+gainBy t p far said = p .g +ℤ t .eta *ℤ pos far +ℤ said .score
+
+-- the entry's words are said, the positions covered, and the gain added
+unfoldable pub nextState : List ℤ → Task → Phrase → Entry → ℕ → ℕ → State → State
+nextState grams t p e first last s =
+    let said = sayAll grams t (silent (s .word1) (s .word2)) (e .target) in
+    record {
+      word1 = said .word1;
+      word2 = said .word2;
+      covered = s .covered + maskOf first last;
+      r = last;
+      score = s .score +ℤ gainBy t p (jumpFrom (s .r) first) said;
+    }
+
+-- the positions lie in the direction, there is room for them in the number, the jump is in reach and the numbers are small
+pub record CanNext (t : Task) (first last : ℕ) (s : State) : Type 0 where
+  pub first-from : 1 ≤ first
+  pub first-to : first ≤ last
+  pub last-to : last ≤ 32
+  pub room : s .covered + maskOf first last < 2 ^ 32
+  pub near : jumpFrom (s .r) first ≤ 32
+  pub eta-within : Within 10_000 (t .eta)
+  pub score-within : Within scoreBound (s .score)

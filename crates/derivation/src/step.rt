@@ -1,0 +1,57 @@
+// A step on plain numbers: its jump, what it adds to a score, and the state that it leads to.
+use crate::Phrase;
+use crate::Said;
+use crate::Task;
+use crate::model;
+use notes::State;
+ghost use mathlib.Core.Path.{_≡_};
+ghost use Prim.Native.Nat.{ℕ, _+_, _*_, _^_, _≤_, _<_};
+ghost use lib.IntN.{pos, _+ℤ_, _*ℤ_};
+ghost use lib.ListN.{length};
+ghost use Rattle.laws.specs.Integers.{Within};
+ghost use Rattle.notes.specs.Book.{Entry};
+ghost use Rattle.derivation.specs.Model.{Model, PhraseOf, Phrased};
+ghost use Rattle.derivation.specs.Next.{jumpFrom, gainBy, nextState, CanNext};
+
+// |r + 1 − first|
+pub fn jump(r: usize, first: usize) -> usize
+    requires { ⌜ r < 2 ^ 63 ⌝ }
+    ensures { λ far. ⌜ far ≡ jumpFrom r first ⌝ }
+{
+    let next = r + 1;
+    if first <= next {
+        next - first
+    } else {
+        first - next
+    }
+}
+
+// What a step adds to a score: the entry's, the penalty of its jump, and what its target words say.
+fn gain(t: Task, p: Phrase, far: usize, said: Said) -> i64
+    requires { ⌜ (Within 10000 (t .eta)) × ((Within 1000000 (p .g)) × ((far ≤ 32) × (Within 8000000 (said .score)))) ⌝ }
+    ensures { λ r. ⌜ (r ≡ gainBy t p far said) × Within 9320000 r ⌝ }
+{
+    let g = p.g;
+    let eta = t.eta;
+    let words = said.score;
+    g + eta * far as i64 + words
+}
+
+// The state after the entry's step over the positions first to last, which are free.
+pub fn next_state(book: &[i32], grams: &[i32], heads: &[u16], links: &[u16], t: Task, p: Phrase, first: usize, last: usize, s: State) -> State
+    requires { ⌜ Model (now grams) (now heads) (now links) t ⌝ }
+    requires { ⌜ Phrased (now book) p ⌝ }
+    requires { ⌜ CanNext t first last s ⌝ }
+    ensures { λ r. ⌜ ((e : Entry) → PhraseOf (now (book .entry)) e p → r ≡ nextState (now (grams .entry)) t p e first last s) ⌝ }
+{
+    let said = model::say(book, grams, heads, links, t, p, s.word1, s.word2);
+    let more = gain(t, p, jump(s.r as usize, first), said);
+    let old = s.score;
+    State {
+        word1: said.word1,
+        word2: said.word2,
+        covered: coverage::covered_with(s.covered, first, last),
+        r: last as u16,
+        score: old + more,
+    }
+}
