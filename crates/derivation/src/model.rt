@@ -17,7 +17,16 @@ fn say_word(grams: &[i32], heads: &[u16], links: &[u16], t: Task, s: Said, y: u1
     ensures { λ r. ⌜ r ≡ sayOne (now (grams .entry)) t s y ⌝ }
 {
     let old = s.score;
-    let gain = triples::triple_score(grams, heads, links, t.triples, t.unseen, s.word1, s.word2, y);
+    let gain = triples::triple_score(
+        grams,
+        heads,
+        links,
+        t.triples,
+        t.unseen,
+        s.word1,
+        s.word2,
+        y,
+    );
     Said {
         score: old + gain,
         word1: s.word2,
@@ -38,7 +47,16 @@ pub fn word_at(book: &[i32], k: usize) -> u16
 }
 
 // What the entry's target words say after the words word1 and word2.
-pub fn say(book: &[i32], grams: &[i32], heads: &[u16], links: &[u16], t: Task, p: Phrase, word1: u16, word2: u16) -> Said
+pub fn say(
+    book: &[i32],
+    grams: &[i32],
+    heads: &[u16],
+    links: &[u16],
+    t: Task,
+    p: Phrase,
+    word1: u16,
+    word2: u16,
+) -> Said
     requires { ⌜ Model (now grams) (now heads) (now links) t ⌝ }
     requires { ⌜ Phrased (now book) p ⌝ }
     ensures { λ r. ⌜ ((e : Entry) → PhraseOf (now (book .entry)) e p → r ≡ sayAll (now (grams .entry)) t (silent word1 word2) (e .target)) ⌝ }

@@ -38,7 +38,17 @@ fn gain(t: Task, p: Phrase, far: usize, said: Said) -> i64
 }
 
 // The state after the entry's step over the positions first to last, which are free.
-pub fn next_state(book: &[i32], grams: &[i32], heads: &[u16], links: &[u16], t: Task, p: Phrase, first: usize, last: usize, s: State) -> State
+pub fn next_state(
+    book: &[i32],
+    grams: &[i32],
+    heads: &[u16],
+    links: &[u16],
+    t: Task,
+    p: Phrase,
+    first: usize,
+    last: usize,
+    s: State,
+) -> State
     requires { ⌜ Model (now grams) (now heads) (now links) t ⌝ }
     requires { ⌜ Phrased (now book) p ⌝ }
     requires { ⌜ CanNext t first last s ⌝ }

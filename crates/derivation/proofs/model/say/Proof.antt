@@ -67,14 +67,17 @@ loop-again : tie.Need-loop-again Inv-loop μ-loop
 loop-again c =
     let b = c .before .before .before .before .before .before .before .before in
     let l = c .before .before .before .before .before .loop in
-    let h : l .j < b .args .p .count = c .before .before .before .if1 .taken in
-    (omega arith,
-    (rw (c .say-word .ensures) (say-within (b .args .grams .now) (b .args .t) (b .pre .0 .scores-within) (l .s) _ (l .j) (l .inv .1 .0)),
-    λ e q.
-    let w = q .target-at in
-    let m = w .many-are in
-    rw (c .say-word .ensures, c .before .word-at .ensures, word-is w (l .j) h)
-    (sym (say-next (b .args .grams .now) (b .args .t) (l .s) (e .target) (l .j) (omega arith)) ∙ l .inv .1 .1 e q)))
+    let h : l .j < b .args .p .count = c .before .before .before .if1 .taken in (
+      omega arith,
+      (
+        rw (c .say-word .ensures) (say-within (b .args .grams .now) (b .args .t) (b .pre .0 .scores-within) (l .s) _ (l .j) (l .inv .1 .0)),
+        λ e q.
+            let w = q .target-at in
+            let m = w .many-are in
+            rw (c .say-word .ensures, c .before .word-at .ensures, word-is w (l .j) h)
+            (sym (say-next (b .args .grams .now) (b .args .t) (l .s) (e .target) (l .j) (omega arith)) ∙ l .inv .1 .1 e q),
+      ),
+    )
 
 -- src/model.rt:41:1
 returns : tie.Need-returns Inv-loop μ-loop
@@ -82,9 +85,10 @@ returns c =
     let b = c .before .before .before .before .before in
     let l = c .before .before .loop in
     let f = b .pre .1 .is .target-at .few in
-    let h = c .if1 .left in
-    (λ e q. let m = q .target-at .many-are in sym (say-end (b .args .grams .now) (b .args .t) (l .s) (e .target) (l .j) (omega arith)) ∙ l .inv .1 .1 e q,
-    within-mono (omega arith) (l .inv .1 .0))
+    let h = c .if1 .left in (
+      λ e q. let m = q .target-at .many-are in sym (say-end (b .args .grams .now) (b .args .t) (l .s) (e .target) (l .j) (omega arith)) ∙ l .inv .1 .1 e q,
+      within-mono (omega arith) (l .inv .1 .0),
+    )
 
 pub say-spec : {M : Type 1} → statement M
 say-spec =

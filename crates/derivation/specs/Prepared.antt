@@ -1,0 +1,21 @@
+-- The lists and the numbers of a decode are those of its book and its direction.
+use Prim.Native.Nat.{ℕ}
+use mathlib.Core.Path.{_≡_}
+use mathlib.Core.List.{List}
+use lib.IntN.{ℤ}
+use lib.ListN.{length}
+use Rattle.notes.specs.Book.{bookRefusal, bookOf}
+use Rattle.notes.specs.Direction.{wordCount, directionRefusal}
+use Rattle.notes.specs.Derivation.{tripleScore}
+use Rattle.derivation.specs.Model.{Model, modelScore}
+use Rattle.derivation.specs.declared.Task.{Task}
+
+pub record Prepared (loaded : List ℤ) (direction : List ℕ) (grams : List ℤ) (heads links : List ℕ) (t : Task) : Type 0 where
+  pub passed : bookRefusal loaded ≡ 0
+  pub directed : directionRefusal direction ≡ 0
+  pub model : Model grams heads links t
+  pub scores-are : (v w y : ℕ) → modelScore grams t v w y ≡ tripleScore (bookOf loaded) v w y
+  pub n-is : t .n ≡ wordCount direction
+  pub limit-is : t .limit ≡ bookOf loaded .limit
+  pub eta-is : t .eta ≡ bookOf loaded .eta
+  pub phrases-are : t .phrases ≡ length (bookOf loaded .entries)
