@@ -2,13 +2,15 @@
 use mathlib.Core.Path.{_≡_, refl, sym, ap, _∙_, subst}
 use mathlib.Core.Bool.{Bool, true, false, not, _&&_, _||_, and-true, and-assoc}
 use mathlib.Core.Logic.{_⊎_, inl, inr, ⊎-elim}
-use mathlib.Core.List.{List, [], _∷_, _++_, map, map-append, append-assoc, List·Memᴰ, List·Memᴰ·head, List·Memᴰ·tail, List·Memᴰ·not-nil, List·Memᴰ·cases-cons, List·Memᴰ·append-cases, Memᴰ·append-left, Memᴰ·append-right, Memᴰ·cast}
+use mathlib.Core.List.{List, [], _∷_, _++_, map, map-append, dropLast, append-assoc, List·Memᴰ, List·Memᴰ·head, List·Memᴰ·tail, List·Memᴰ·not-nil, List·Memᴰ·cases-cons, List·Memᴰ·append-cases, Memᴰ·append-left, Memᴰ·append-right, Memᴰ·cast}
 use Prim.Native.Nat.{ℕ, zero, suc, _+_, _-_, _≤_, _<_, zero-le, suc-le-suc}
 use native.Mathlib.Numerals.{add-one}
 use native.Mathlib.Omega.{arith}
-use borrow.Author.Tests.{not-true, not-false}
-use lib.ListN.{length, getD, take, drop}
-use lib.Seq.{take-suc, drop-cons}
+use borrow.Author.Tests.{not-true, not-false, ne-eqb}
+use lib.Dec.{eqb}
+use lib.ListN.{length, getD, take, drop, length-drop}
+use lib.Seq.{take-suc, take-all, take-take, drop-cons}
+use Rattle.laws.specs.Bits.{one}
 use Rattle.laws.specs.Lists.{all, any, keep, count, concat, eqList, noneTwice, Distinct, numbersFrom, oneTo}
 use Rattle.laws.proofs.Tests.{if-ind, by-test, both, both-of, one-of, clash, is-false}
 
@@ -21,6 +23,45 @@ module _ {A : Type 0} where
 
   pub take-next : (xs : List A) (i : ℕ) (d : A) → i < length xs → take (i + 1) xs ≡ take i xs ++ (getD xs i d ∷ [])
   take-next xs i d h = rw (add-one, take-suc xs i d)
+
+  -- a part that goes to the end, and one of a given size, as code's `&xs[i..]` and `&xs[i..i + n]` have them
+  pub part-rest : (xs : List A) (i : ℕ) → take (length xs - i) (drop i xs) ≡ drop i xs
+  part-rest xs i = take-all (length xs - i) (drop i xs) (rw length-drop (omega arith))
+
+  pub part-size : (xs : List A) (i n : ℕ) → take ((i + n) - i) (drop i xs) ≡ take n (drop i xs)
+  part-size xs i n = let e : (i + n) - i ≡ n = omega arith in rw e
+
+  -- the same of a list without its last element
+  pub dropLast-next : (xs : List A) (i : ℕ) (d : A) → i + 1 < length xs → dropLast (drop i xs) ≡ getD xs i d ∷ dropLast (drop (i + 1) xs)
+  dropLast-next [] i d h = absurd (omega arith)
+  dropLast-next (x ∷ []) i d h = absurd (omega arith)
+  dropLast-next (x ∷ y ∷ xs) zero d h = refl
+  dropLast-next (x ∷ y ∷ xs) (suc i) d h = let e : suc i + 1 ≡ suc (i + 1) = omega arith in rw e (dropLast-next (y ∷ xs) i d (omega arith))
+
+  pub dropLast-end : (xs : List A) (i : ℕ) → length xs ≤ i + 1 → dropLast (drop i xs) ≡ []
+  dropLast-end [] zero h = refl
+  dropLast-end [] (suc i) h = refl
+  dropLast-end (x ∷ []) zero h = refl
+  dropLast-end (x ∷ y ∷ xs) zero h = absurd (omega arith)
+  dropLast-end (x ∷ xs) (suc i) h = dropLast-end xs i (omega arith)
+
+  pub dropLast-length : (xs : List A) → length (dropLast xs) ≡ length xs - 1
+  dropLast-length [] = refl
+  dropLast-length (x ∷ []) = refl
+  dropLast-length (x ∷ y ∷ xs) = let ih = dropLast-length (y ∷ xs) in omega arith
+
+  pub dropLast-getD : (xs : List A) (i : ℕ) (d : A) → i + 1 < length xs → getD (dropLast xs) i d ≡ getD xs i d
+  dropLast-getD [] i d h = absurd (omega arith)
+  dropLast-getD (x ∷ []) i d h = absurd (omega arith)
+  dropLast-getD (x ∷ y ∷ xs) zero d h = refl
+  dropLast-getD (x ∷ y ∷ xs) (suc i) d h = dropLast-getD (y ∷ xs) i d (omega arith)
+
+  -- a part of a part
+  pub part-part : (m i n : ℕ) (xs : List A) → i + n ≤ m → take n (drop i (take m xs)) ≡ take n (drop i xs)
+  part-part m zero n xs h = take-take n m xs (omega arith)
+  part-part zero (suc i) n xs h = absurd (omega arith)
+  part-part (suc m) (suc i) n [] h = refl
+  part-part (suc m) (suc i) n (x ∷ xs) h = part-part m i n xs (omega arith)
 
   -- what stands at a place is a member, and a member stands at a place
   pub getD-mem : (xs : List A) (i : ℕ) (d : A) → i < length xs → List·Memᴰ (getD xs i d) xs
@@ -130,6 +171,14 @@ module _ {A : Type 0} (test : A → Bool) where
   pub keep-length : (xs : List A) → length (keep test xs) ≡ count test xs
   keep-length [] = refl
   keep-length (x ∷ xs) = by-test (test x) (λ t. rw (t, keep-length xs)) (λ f. rw f (keep-length xs))
+
+  -- one element before, and none at all
+  pub count-cons : (x : A) (xs : List A) → count test (x ∷ xs) ≡ one (test x) + count test xs
+  count-cons x xs = by-test (test x) (λ t. rw t (omega arith)) (λ f. rw f (omega arith))
+
+  pub count-none : (xs : List A) → eqb (count test xs) 0 ≡ not (any test xs)
+  count-none [] = refl
+  count-none (x ∷ xs) = by-test (test x) (λ t. rw t (ne-eqb (suc (count test xs)) 0 (omega arith))) (λ f. rw f (count-none xs))
 
   -- where all pass, all are kept
   pub keep-all : (xs : List A) → all test xs ≡ true → keep test xs ≡ xs

@@ -23,6 +23,7 @@ use Rattle.triples.proofs.Records.{triples-length, triples-at, alike, a
 -- ---- triples that stand twice
 
 module _ (grams : List ℤ) where
+  -- any triple, as what `getD` gives past the end
   none : Triple
   none = tripleAt grams 0
 

@@ -1,0 +1,8 @@
+pub mod Calls
+pub mod Lines
+pub mod Counts
+pub mod Triples
+pub mod Cuts
+pub mod Walk
+pub mod Places
+pub mod Sought

@@ -1,0 +1,109 @@
+-- What the definitions of a line's size and ranges are at each outcome of the tests that the code makes, one after the other.
+use Prim.Native.Nat.{ℕ, _+_, _-_, _≤_}
+use native.Mathlib.Omega.{arith}
+use mathlib.Core.Path.{_≡_, refl, sym}
+use mathlib.Core.Bool.{true, false}
+use mathlib.Core.List.{List, [], _∷_, dropLast}
+use lib.Dec.{eqb}
+use lib.IntN.{ℤ, pos, negsuc, natAbs}
+use lib.Signed.{leZ, ltZ}
+use lib.ListN.{length, drop}
+use Rattle.laws.specs.Integers.{eqℤ, natOf}
+use Rattle.laws.specs.Lists.{all}
+use Rattle.laws.proofs.Tests.{both}
+use Rattle.laws.proofs.Linear.{signed}
+use Rattle.notes.specs.Questions.{withinℤ}
+use Rattle.notes.specs.Book.{numberAt, naturalAt, isB, isP, isT, isPhraseLength, phraseSize, sizeOf, isWhole, isScore, isWord, isWordOrStart, rangesB, rangesP, rangesT, isInRange}
+
+-- ---- the kind
+
+pub kind-below : (z : ℤ) (k : ℕ) → ltZ z (pos 0) ≡ true → false ≡ eqℤ z (pos k)
+kind-below z k h = let t : eqℤ z (pos k) ≡ false = omega (arith, signed) in sym t
+
+pub kind-from : (z : ℤ) (k : ℕ) → ltZ z (pos 0) ≡ false → eqb (natAbs z) k ≡ eqℤ z (pos k)
+kind-from (pos n) k h = refl
+kind-from (negsuc n) k h = absurd (omega (arith, signed))
+
+-- ---- the size
+
+pub length-to : (z : ℤ) → isPhraseLength z ≡ true → natOf z ≤ 8
+length-to (pos n) h = let b = both (leZ (pos 1) (pos n)) (leZ (pos n) (pos 8)) h in let u = b .1 in omega (arith, signed)
+length-to (negsuc n) h = omega arith
+
+module _ (line : List ℤ) where
+  pub phrase-first : isPhraseLength (numberAt line 1) ≡ false → 0 ≡ phraseSize line
+  phrase-first h = rw h
+
+  pub phrase-second : isPhraseLength (numberAt line 1) ≡ true → isPhraseLength (numberAt line 2) ≡ false → 0 ≡ phraseSize line
+  phrase-second h k = rw (h, k)
+
+  pub phrase-both : isPhraseLength (numberAt line 1) ≡ true → isPhraseLength (numberAt line 2) ≡ true → naturalAt line 1 + naturalAt line 2 + 4 ≡ phraseSize line
+  phrase-both h k = rw (h, k)
+
+  pub size-b : isB line ≡ true → 4 ≡ sizeOf line
+  unfolding sizeOf
+  size-b h = rw h
+
+  pub size-p : isB line ≡ false → isP line ≡ true → phraseSize line ≡ sizeOf line
+  unfolding sizeOf
+  size-p h k = rw (h, k)
+
+  pub size-t : isB line ≡ false → isP line ≡ false → isT line ≡ true → 5 ≡ sizeOf line
+  unfolding sizeOf
+  size-t h k l = rw (h, k, l)
+
+  pub size-none : isB line ≡ false → isP line ≡ false → isT line ≡ false → 0 ≡ sizeOf line
+  unfolding sizeOf
+  size-none h k l = rw (h, k, l)
+
+  pub range-b : isB line ≡ true → rangesB line ≡ isInRange line
+  unfolding isInRange
+  range-b h = rw h
+
+  pub range-p : isB line ≡ false → isP line ≡ true → rangesP line ≡ isInRange line
+  unfolding isInRange
+  range-p h k = rw (h, k)
+
+  pub range-t : isB line ≡ false → isP line ≡ false → rangesT line ≡ isInRange line
+  unfolding isInRange
+  range-t h k = rw (h, k)
+
+pub whole-empty : (line : List ℤ) → length line ≡ 0 → false ≡ isWhole line
+unfolding isWhole
+whole-empty [] h = refl
+whole-empty (z ∷ line) h = absurd (omega arith)
+
+pub whole-some : (line : List ℤ) (n : ℕ) → (length line ≡ 0 → ⊥) → n ≡ sizeOf line → eqb (length line) n ≡ isWhole line
+unfolding isWhole
+whole-some [] n h e = absurd (h refl)
+whole-some (z ∷ line) n h e = rw e
+
+-- ---- the ranges, their tests asked one after the other
+
+module _ (line : List ℤ) where
+  pub b-limit : withinℤ (pos 0) (pos 32) (numberAt line 1) ≡ false → false ≡ rangesB line
+  b-limit h = rw h
+
+  pub b-penalty : withinℤ (pos 0) (pos 32) (numberAt line 1) ≡ true → withinℤ (negsuc 9_999) (pos 10_000) (numberAt line 2) ≡ false → false ≡ rangesB line
+  b-penalty h k = rw (h, k)
+
+  pub b-score : withinℤ (pos 0) (pos 32) (numberAt line 1) ≡ true → withinℤ (negsuc 9_999) (pos 10_000) (numberAt line 2) ≡ true → isScore (numberAt line 3) ≡ rangesB line
+  b-score h k = rw (h, k)
+
+  pub p-words : all isWord (dropLast (drop 3 line)) ≡ false → false ≡ rangesP line
+  p-words h = rw h
+
+  pub p-score : all isWord (dropLast (drop 3 line)) ≡ true → isScore (numberAt line (length line - 1)) ≡ rangesP line
+  p-score h = rw h
+
+  pub t-first : isWordOrStart (numberAt line 1) ≡ false → false ≡ rangesT line
+  t-first h = rw h
+
+  pub t-second : isWordOrStart (numberAt line 1) ≡ true → isWordOrStart (numberAt line 2) ≡ false → false ≡ rangesT line
+  t-second h k = rw (h, k)
+
+  pub t-word : isWordOrStart (numberAt line 1) ≡ true → isWordOrStart (numberAt line 2) ≡ true → isWord (numberAt line 3) ≡ false → false ≡ rangesT line
+  t-word h k l = rw (h, k, l)
+
+  pub t-score : isWordOrStart (numberAt line 1) ≡ true → isWordOrStart (numberAt line 2) ≡ true → isWord (numberAt line 3) ≡ true → isScore (numberAt line 4) ≡ rangesT line
+  t-score h k l = rw (h, k, l)

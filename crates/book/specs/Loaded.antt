@@ -1,0 +1,24 @@
+-- A walk over a loaded list, line by line, and what a survey of the whole list says.
+use Prim.Native.Nat.{ℕ, _-_}
+use mathlib.Core.Path.{_≡_}
+use mathlib.Core.Bool.{true, false, cond}
+use mathlib.Core.List.{List}
+use lib.Dec.{leb}
+use lib.IntN.{ℤ}
+use lib.ListN.{length, drop}
+use Rattle.laws.specs.Lists.{all}
+use Rattle.notes.specs.Book.{sizeOf, isWhole, loadedLines}
+use Rattle.book.specs.declared.loaded.Surveyed.{Surveyed}
+use Rattle.book.specs.declared.loaded.Surveyed.the-variants.{Whole, Broken}
+use Rattle.book.specs.Survey.{fresh, surveyFrom}
+use Rattle.book.specs.Grams.{gramsFrom}
+
+-- how many numbers the line takes that stands at `at`; 0 where it cannot be cut, or is cut off
+unfoldable pub sizeAt : List ℤ → ℕ → ℕ
+sizeAt loaded at = cond (leb (sizeOf (drop at loaded)) (length loaded - at)) (sizeOf (drop at loaded)) 0
+
+-- question 2 of all lines; where it passes, the survey of all lines, and their triples
+abbrev pub SurveyOf : List ℤ → List ℤ → List ℤ → Surveyed → Type 0
+SurveyOf loaded grams₀ grams₁ (Whole s) =
+    (all isWhole (loadedLines loaded) ≡ true) × (s ≡ surveyFrom fresh (loadedLines loaded)) × (grams₁ ≡ gramsFrom grams₀ 0 (loadedLines loaded))
+SurveyOf loaded grams₀ grams₁ Broken = all isWhole (loadedLines loaded) ≡ false

@@ -1,0 +1,6 @@
+pub mod entries;
+pub mod grams;
+pub mod line;
+pub mod loaded;
+pub mod survey;
+pub mod target;

@@ -1,0 +1,192 @@
+// A line of a book as numbers, its kind first: what questions 2 and 4 ask of one line. A text's line and a loaded list's line
+// are judged by the same functions.
+ghost use mathlib.Core.Path.{_≡_};
+ghost use mathlib.Core.List.{dropLast};
+ghost use Prim.Native.Nat.{_-_};
+ghost use lib.IntN.{pos, negℤ};
+ghost use lib.ListN.{length, drop};
+ghost use Rattle.laws.specs.Lists.{all};
+ghost use Rattle.notes.specs.Questions.{withinℤ};
+ghost use Rattle.laws.specs.Integers.{natOf};
+ghost use Rattle.notes.specs.Book.{numberAt, naturalAt, isKind, isPhraseLength, phraseSize, sizeOf, isWhole, isScore, isWord, isWordOrStart, rangesB, rangesP, rangesT, isInRange};
+
+// The number, or 0 where it is negative.
+pub fn natural(x: i32) -> usize
+    ensures { λ r. ⌜ r ≡ natOf x ⌝ }
+{
+    if x < 0 { 0 } else { x as usize }
+}
+
+// Number k of the line, or 0 behind its end.
+pub fn number_at(line: &[i32], k: usize) -> i32
+    ensures { λ r. ⌜ r ≡ numberAt (now (line .entry)) k ⌝ }
+{
+    if k < line.len() { line[k] } else { 0 }
+}
+
+// The same, or 0 where it is negative.
+pub fn natural_at(line: &[i32], k: usize) -> usize
+    ensures { λ r. ⌜ r ≡ naturalAt (now (line .entry)) k ⌝ }
+{
+    natural(number_at(line, k))
+}
+
+// The line is of the kind k: 1 for B, 2 for P, 3 for T.
+pub fn is_kind(line: &[i32], k: usize) -> bool
+    ensures { λ r. ⌜ r ≡ isKind k (now (line .entry)) ⌝ }
+{
+    let x = number_at(line, 0);
+    if x < 0 { false } else { x as usize == k }
+}
+
+fn is_phrase_length(x: i32) -> bool
+    ensures { λ r. ⌜ r ≡ isPhraseLength x ⌝ }
+{
+    1 <= x && x <= 8
+}
+
+fn size_of_phrase(line: &[i32]) -> usize
+    ensures { λ r. ⌜ r ≡ phraseSize (now (line .entry)) ⌝ }
+{
+    if !is_phrase_length(number_at(line, 1)) {
+        return 0;
+    }
+    if !is_phrase_length(number_at(line, 2)) {
+        return 0;
+    }
+    natural_at(line, 1) + natural_at(line, 2) + 4
+}
+
+// How many numbers the line that stands at the front takes; 0 where that cannot be told (question 2).
+pub fn size_of(line: &[i32]) -> usize
+    ensures { λ r. ⌜ r ≡ sizeOf (now (line .entry)) ⌝ }
+{
+    if is_kind(line, 1) {
+        return 4;
+    }
+    if is_kind(line, 2) {
+        return size_of_phrase(line);
+    }
+    if is_kind(line, 3) {
+        return 5;
+    }
+    0
+}
+
+// Question 2, of a line.
+pub fn is_whole(line: &[i32]) -> bool
+    ensures { λ r. ⌜ r ≡ isWhole (now (line .entry)) ⌝ }
+{
+    if line.len() == 0 {
+        return false;
+    }
+    line.len() == size_of(line)
+}
+
+pub fn is_score(x: i32) -> bool
+    ensures { λ r. ⌜ r ≡ isScore x ⌝ }
+{
+    -1_000_000 <= x && x <= 1_000_000
+}
+
+pub fn is_word(x: i32) -> bool
+    ensures { λ r. ⌜ r ≡ isWord x ⌝ }
+{
+    1 <= x && x <= 65_535
+}
+
+fn is_word_or_start(x: i32) -> bool
+    ensures { λ r. ⌜ r ≡ isWordOrStart x ⌝ }
+{
+    0 <= x && x <= 65_535
+}
+
+// The reordering limit d of a B line.
+fn is_limit(x: i32) -> bool
+    ensures { λ r. ⌜ r ≡ withinℤ (pos 0) (pos 32) x ⌝ }
+{
+    0 <= x && x <= 32
+}
+
+// The penalty eta of a B line.
+fn is_penalty(x: i32) -> bool
+    ensures { λ r. ⌜ r ≡ withinℤ (negℤ (pos 10_000)) (pos 10_000) x ⌝ }
+{
+    -10_000 <= x && x <= 10_000
+}
+
+// Question 4, of a B line.
+fn ranges_b(line: &[i32]) -> bool
+    ensures { λ r. ⌜ r ≡ rangesB (now (line .entry)) ⌝ }
+{
+    if !is_limit(number_at(line, 1)) {
+        return false;
+    }
+    if !is_penalty(number_at(line, 2)) {
+        return false;
+    }
+    is_score(number_at(line, 3))
+}
+
+// The words of a P line: what stands between its first three numbers and its last.
+fn are_words(line: &[i32]) -> bool
+    ensures { λ r. ⌜ r ≡ all isWord (dropLast (drop 3 (now (line .entry)))) ⌝ }
+{
+    let mut i = 3;
+    while i + 1 < line.len() {
+        if !is_word(line[i]) {
+            return false;
+        }
+        i += 1;
+    }
+    true
+}
+
+// The last number of a line, or 0 where there is none.
+fn last_of(line: &[i32]) -> i32
+    ensures { λ r. ⌜ r ≡ numberAt (now (line .entry)) (length (now (line .entry)) - 1) ⌝ }
+{
+    if line.len() == 0 {
+        return 0;
+    }
+    number_at(line, line.len() - 1)
+}
+
+// Question 4, of a P line.
+fn ranges_p(line: &[i32]) -> bool
+    ensures { λ r. ⌜ r ≡ rangesP (now (line .entry)) ⌝ }
+{
+    if !are_words(line) {
+        return false;
+    }
+    is_score(last_of(line))
+}
+
+// Question 4, of a T line.
+fn ranges_t(line: &[i32]) -> bool
+    ensures { λ r. ⌜ r ≡ rangesT (now (line .entry)) ⌝ }
+{
+    if !is_word_or_start(number_at(line, 1)) {
+        return false;
+    }
+    if !is_word_or_start(number_at(line, 2)) {
+        return false;
+    }
+    if !is_word(number_at(line, 3)) {
+        return false;
+    }
+    is_score(number_at(line, 4))
+}
+
+// Question 4, of a line.
+pub fn is_in_range(line: &[i32]) -> bool
+    ensures { λ r. ⌜ r ≡ isInRange (now (line .entry)) ⌝ }
+{
+    if is_kind(line, 1) {
+        return ranges_b(line);
+    }
+    if is_kind(line, 2) {
+        return ranges_p(line);
+    }
+    ranges_t(line)
+}

@@ -1,0 +1,55 @@
+// A loaded list, walked line by line.
+use crate::grams;
+use crate::line;
+use crate::survey;
+use crate::survey::Survey;
+ghost use mathlib.Core.Path.{_≡_};
+ghost use Prim.Native.Nat.{_≤_};
+ghost use lib.ListN.{length, drop};
+ghost use Rattle.notes.specs.Book.{isP};
+ghost use Rattle.book.specs.Loaded.{sizeAt, SurveyOf};
+
+// The survey of a list whose lines are all whole (question 2), or that one is not.
+pub enum Surveyed {
+    Whole(Survey),
+    Broken,
+}
+
+// How many numbers the line takes that stands at `at`, or 0 where no whole line stands there.
+pub fn size_at(book: &[i32], at: usize) -> usize
+    requires { ⌜ at ≤ length (now book) ⌝ }
+    ensures { λ r. ⌜ r ≡ sizeAt (now (book .entry)) at ⌝ }
+{
+    let size = line::size_of(&book[at..]);
+    if size <= book.len() - at {
+        return size;
+    }
+    0
+}
+
+// Whether the line at `at` is a P line.
+pub fn is_entry_at(book: &[i32], at: usize) -> bool
+    requires { ⌜ at ≤ length (now book) ⌝ }
+    ensures { λ r. ⌜ r ≡ isP (drop at (now (book .entry))) ⌝ }
+{
+    line::is_kind(&book[at..], 2)
+}
+
+// What is known of all lines of a loaded list; `grams` gets the triples of its T lines. Where a line is not whole, what
+// `grams` holds afterwards is not said.
+pub fn survey_loaded(book: &[i32], grams: &mut [i32]) -> Surveyed
+    requires { ⌜ 32_768 ≤ length (now grams) ⌝ }
+    ensures { λ r. ⌜ SurveyOf (now (book .entry)) (now (grams .entry)) (now (grams .exit)) r ⌝ }
+{
+    let mut acc = survey::fresh();
+    let mut at = 0;
+    while at < book.len() {
+        let size = size_at(book, at);
+        if size == 0 {
+            return Surveyed::Broken;
+        }
+        acc = grams::note_line(acc, grams, &book[at..at + size]);
+        at += size;
+    }
+    Surveyed::Whole(acc)
+}

@@ -1,0 +1,102 @@
+-- A text read a byte at a time: what may follow what has been read, and the number that a comma or a byte 10 ends.
+-- What a text is and says is stated in notes' specs (Numerals, Book, Direction); proofs/Bridge has that both agree.
+use Prim.Native.Nat.{ℕ, _+_, _*_, _-_}
+use mathlib.Core.Bool.{Bool, true, false, cond, _||_}
+use mathlib.Core.List.{List, [], _∷_}
+use lib.Dec.{eqb}
+use lib.IntN.{ℤ, pos, negℤ}
+use Rattle.notes.specs.Questions.{within}
+use Rattle.notes.specs.Numerals.{newline, comma, minus, zeroDigit, isDigit}
+use Rattle.text.specs.declared.Scan.{Scan}
+use Rattle.text.specs.declared.Scan.the-variants.{Line, Kind, Field, Minus, Digits, Broken}
+
+-- ════ what may follow. `book`: the text is a book's, of lines that begin with a letter; else it is a direction's, of one line
+
+-- a letter B, P or T
+abbrev pub lineStart : Bool → ℕ → Scan
+lineStart book b =
+    cond book
+    (cond (eqb b 66) (Kind (pos 1)) (cond (eqb b 80) (Kind (pos 2)) (cond (eqb b 84) (Kind (pos 3)) Broken)))
+    Broken
+
+abbrev pub afterKind : ℕ → Scan
+afterKind b = cond (eqb b comma) Field Broken
+
+-- a minus or a digit
+abbrev pub fieldStart : ℕ → Scan
+fieldStart b = cond (eqb b minus) Minus (cond (isDigit b) (Digits false (b - zeroDigit)) Broken)
+
+-- a digit 1 to 9
+abbrev pub afterMinus : ℕ → Scan
+afterMinus b = cond (eqb b zeroDigit) Broken (cond (isDigit b) (Digits true (b - zeroDigit)) Broken)
+
+-- a comma, or the byte 10
+abbrev pub afterNumber : ℕ → Scan
+afterNumber b = cond (eqb b comma) Field (cond (eqb b newline) Line Broken)
+
+-- a digit may follow the digits that make v: none follows a 0, nor seven digits
+abbrev pub moreDigits : ℕ → Bool
+moreDigits v = within 1 999_999 v
+
+-- a digit more, a comma, or the byte 10
+abbrev pub afterDigits : Bool → ℕ → ℕ → Scan
+afterDigits isMinus v b =
+    cond (isDigit b) (cond (moreDigits v) (Digits isMinus (v * 10 + (b - zeroDigit))) Broken) (afterNumber b)
+
+abbrev pub next : Bool → Scan → ℕ → Scan
+next book Line b = lineStart book b
+next book (Kind k) b = afterKind b
+next book Field b = fieldStart b
+next book Minus b = afterMinus b
+next book (Digits isMinus v) b = afterDigits isMinus v b
+next book Broken b = Broken
+
+abbrev pub run : Bool → Scan → List ℕ → Scan
+run book s [] = s
+run book s (b ∷ bs) = run book (next book s b) bs
+
+-- a line has just ended
+abbrev pub atLine : Scan → Bool
+atLine Line = true
+atLine (Kind k) = false
+atLine Field = false
+atLine Minus = false
+atLine (Digits isMinus v) = false
+atLine Broken = false
+
+-- ════ the numbers
+
+abbrev pub signed : Bool → ℕ → ℤ
+signed isMinus v = cond isMinus (negℤ (pos v)) (pos v)
+
+-- the number that has been read: of a letter its kind, of digits their value
+abbrev pub scanned : Scan → ℤ
+scanned Line = pos 0
+scanned (Kind k) = k
+scanned Field = pos 0
+scanned Minus = pos 0
+scanned (Digits isMinus v) = signed isMinus v
+scanned Broken = pos 0
+
+-- the digits' value without its sign
+abbrev pub magnitude : Scan → ℕ
+magnitude Line = 0
+magnitude (Kind k) = 0
+magnitude Field = 0
+magnitude Minus = 0
+magnitude (Digits isMinus v) = v
+magnitude Broken = 0
+
+-- a comma or the byte 10: it ends a number
+abbrev pub isMark : ℕ → Bool
+isMark b = eqb b comma || eqb b newline
+
+-- the numbers that the marks end
+abbrev pub emit : Bool → Scan → List ℕ → List ℤ
+emit book s [] = []
+emit book s (b ∷ bs) = cond (isMark b) (scanned s ∷ emit book (next book s b) bs) (emit book (next book s b) bs)
+
+-- how many marks there are
+abbrev pub marks : List ℕ → ℕ
+marks [] = 0
+marks (b ∷ bs) = cond (isMark b) (marks bs + 1) (marks bs)
