@@ -11,9 +11,9 @@ use borrow.Author.Tests.{le-leb, lt-leb, leb-true, leb-false, eqb-true, eqb-fals
 use lib.Dec.{eqb, leb, leb·suc-suc}
 use lib.ListN.{length, getD, set, drop, drop-of-length-le, length-drop}
 use lib.Seq.{getD-set-same, getD-set-other, drop-nil}
-use Rattle.laws.specs.Bits.{bitsOf, one, ofBits, apart, joined}
+use Rattle.laws.specs.Bits.{bitsOf, one, ofBits, ones, apart, joined}
 use Rattle.laws.proofs.Tests.{by-test, both, both-of, is-false}
-use Rattle.laws.proofs.Bits.{bits-length, bits-next, bit-of, bitsOf-ofBits, ofBits-lt, add-lt, add-bits}
+use Rattle.laws.proofs.Bits.{bits-length, bits-next, bit-of, bitsOf-ofBits, ofBits-lt, add-lt, add-bits, ones-joined}
 use Rattle.laws.specs.Lists.{all, numbersFrom}
 use Rattle.laws.proofs.Lists.{drop-next, mem-numbers, all-mem}
 use Rattle.notes.specs.Derivation.{covers}
@@ -239,6 +239,44 @@ module _ (step : Step) (n c : ℕ) (a : 1 ≤ step .first) (b : step .first ≤ 
   mask-covers =
       add-bits n c (maskOf (step .first) (step .last)) small mask-small away
       ∙ ap (joined (bitsOf n c)) mask-bits ∙ ap (λ (k : ℕ). joined (bitsOf n c) (stepBits step 1 k)) (sym (bits-length n c)) ∙ sym (cover-joined step 1 (bitsOf n c))
+
+-- ════ how many positions a step covers
+
+past-ones : (step : Step) (i m : ℕ) → step .last < i → ones (stepBits step i m) ≡ 0
+unfolding stepBits
+past-ones step i zero h = refl
+past-ones step i (suc m) h = rw (covers-past step i h) (past-ones step (suc i) m (omega arith))
+
+-- from the first position on
+inside-ones : (step : Step) (i m : ℕ) → step .first ≤ i → step .last < i + m → ones (stepBits step i m) ≡ step .last + 1 - i
+unfolding stepBits
+inside-ones step i zero a b = let z : step .last + 1 - i ≡ 0 = omega arith in sym z
+inside-ones step i (suc m) a b =
+    by-test (leb i (step .last))
+    (λ t. let h = leb-true i (step .last) t in
+    let z : step .last + 1 - i ≡ suc (step .last + 1 - suc i) = omega arith in
+    rw (covers-yes step i a h, z) (ap suc (inside-ones step (suc i) m (omega arith) (omega arith))))
+    (λ f. let h = leb-false i (step .last) f in
+    let z : step .last + 1 - i ≡ 0 = omega arith in
+    rw (covers-past step i h, z) (past-ones step (suc i) m (omega arith)))
+
+step-ones : (step : Step) (i m : ℕ) → i ≤ step .first → step .first ≤ step .last → step .last < i + m → ones (stepBits step i m) ≡ step .last + 1 - step .first
+unfolding stepBits
+step-ones step i zero a b c = absurd (omega arith)
+step-ones step i (suc m) a b c =
+    by-test (eqb i (step .first))
+    (λ e. let z : i ≡ step .first = eqb-true _ _ e in
+    ap (λ (k : ℕ). ones (stepBits step k (suc m))) z ∙ inside-ones step (step .first) (suc m) (omega arith) (omega arith))
+    (λ f. let z : i ≡ step .first → ⊥ = eqb-false i (step .first) f in
+    rw (covers-early step i (omega arith)) (step-ones step (suc i) m (omega arith) b (omega arith)))
+
+-- covering free positions adds as many as the step has
+pub cover-ones : (step : Step) (bits : List Bool) → 1 ≤ step .first → step .first ≤ step .last → step .last ≤ length bits → isFree step 1 bits ≡ true
+    → ones (cover step 1 bits) ≡ ones bits + (step .last + 1 - step .first)
+cover-ones step bits a b c free =
+    ap ones (cover-joined step 1 bits)
+    ∙ ones-joined bits (stepBits step 1 (length bits)) (sym (free-apart step 1 bits) ∙ free)
+    ∙ ap (λ (k : ℕ). ones bits + k) (step-ones step 1 (length bits) a b (omega arith))
 
 -- ════ the table of powers, by one test over the whole of it
 

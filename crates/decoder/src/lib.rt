@@ -1,0 +1,8 @@
+// The search on plain numbers: the states of the store are extended set by set, and the best of the last set is traced back.
+pub mod extend;
+
+// What is searched: the numbers of the book and the direction, and the beam's width (-1: pruning off).
+pub struct Job {
+    pub task: derivation::Task,
+    pub width: i64,
+}

@@ -1,0 +1,155 @@
+-- The store as a function from places to what they hold. It is a list of integers, eight to a place; src/lib.rt says what each is.
+-- Reading is total (a negative number counts as 0, and what is too large for its field is cut), so nothing is asked of what a store held before.
+use mathlib.Core.Path.{_≡_}
+use mathlib.Core.Bool.{Bool, true, false, _&&_}
+use mathlib.Core.Logic.{_⊎_}
+use mathlib.Core.List.{List}
+use Prim.Native.Nat.{ℕ, _+_, _*_, _/_, _%_, _<_, _≤_, _^_}
+use lib.Dec.{eqb}
+use lib.IntN.{ℤ, pos}
+use lib.Signed.{ltZ}
+use lib.ListN.{length, getD}
+use Rattle.laws.specs.Integers.{natOf}
+use Rattle.laws.specs.Index.{Chained, Walk}
+use Rattle.notes.specs.declared.State.{State}
+use Rattle.store.specs.declared.Place.{Place}
+use Rattle.store.specs.declared.Found.{Found}
+use Rattle.store.specs.declared.Found.the-variants.{At, Nothing}
+use Rattle.store.specs.declared.Added.{Added}
+use Rattle.store.specs.declared.Added.the-variants.{Replaced, Kept, Appended, Full}
+
+-- ---- reading
+
+-- number f of the place k, as a natural
+abbrev pub natAt : List ℤ → ℕ → ℕ → ℕ
+natAt st k f = natOf (getD st (8 * k + f) (pos 0))
+
+unfoldable pub placeAt : List ℤ → ℕ → Place
+placeAt st k =
+    record {
+      state =
+          record {
+            word1 = natOf (getD st (8 * k) (pos 0)) / 65536 % 65536;
+            word2 = natOf (getD st (8 * k) (pos 0)) % 65536;
+            covered = natAt st k 1 % 4294967296;
+            r = natAt st k 2 / 64 % 65536;
+            score = getD st (8 * k + 3) (pos 0);
+          };
+      size = natAt st k 2 % 64;
+      parent = natAt st k 4;
+      option = natAt st k 5;
+    }
+
+unfoldable pub headAt : List ℤ → ℕ → ℕ
+headAt st h = natAt st h 6
+
+unfoldable pub linkAt : List ℤ → ℕ → ℕ
+linkAt st k = natAt st k 7
+
+-- ---- writing
+
+-- the last two words as one number
+abbrev pub wordsOf : State → ℕ
+wordsOf x = x .word1 * 65536 + x .word2
+
+-- what is no field of a fixed width fits a place too
+pub record Storable (x : Place) : Type 0 where
+  pub size-fits : x .size < 64
+  pub parent-fits : x .parent < 2 ^ 63
+  pub option-fits : x .option < 2 ^ 63
+
+-- the place k now holds x, and no other changed
+pub record Put (old new : List ℤ) (k : ℕ) (x : Place) : Type 0 where
+  pub long : length new ≡ length old
+  pub at : placeAt new k ≡ x
+  pub other : (j : ℕ) → (j ≡ k → ⊥) → placeAt new j ≡ placeAt old j
+
+-- all but the numbers 0 to 5 of the place k are as they were
+pub record Spare (old new : List ℤ) (k : ℕ) : Type 0 where
+  pub numbers : (p : ℕ) → (8 * k ≤ p → 8 * k + 6 ≤ p) → getD new p (pos 0) ≡ getD old p (pos 0)
+
+-- the place k is linked in front of the bucket h, and nothing else changed
+pub record Relinked (old new : List ℤ) (k h : ℕ) : Type 0 where
+  pub long : length new ≡ length old
+  pub numbers : (p : ℕ) → (p ≡ 8 * k + 7 → ⊥) → (p ≡ 8 * h + 6 → ⊥) → getD new p (pos 0) ≡ getD old p (pos 0)
+  pub places : (j : ℕ) → placeAt new j ≡ placeAt old j
+  pub number : getD new (8 * h + 6) (pos 0) ≡ pos (k + 1)
+  pub head : headAt new h ≡ k + 1
+  pub link : linkAt new k ≡ headAt old h
+  pub heads : (g : ℕ) → (g ≡ h → ⊥) → headAt new g ≡ headAt old g
+  pub links : (j : ℕ) → (j ≡ k → ⊥) → linkAt new j ≡ linkAt old j
+
+-- ---- the index
+
+-- a state's bucket, of n: by all but its score
+unfoldable pub bucketOf : ℕ → State → ℕ
+bucketOf n x = (wordsOf x * 506952113 + x .covered * 99338871 + x .r * 313700925) / 1048576 % n
+
+-- the states of the first places are indexed, and the store is zero but for what they need
+pub record Indexed (st : List ℤ) (count : ℕ) : Type 0 where
+  pub room : 8 ≤ length st
+  pub few : 8 * count ≤ length st
+  pub unused : (k f : ℕ) → count ≤ k → f < 8 → (f ≡ 6 → ⊥) → getD st (8 * k + f) (pos 0) ≡ pos 0
+  pub plain : (h : ℕ) → getD st (8 * h + 6) (pos 0) ≡ pos (headAt st h)
+  pub past : (h : ℕ) → length st / 8 ≤ h → headAt st h ≡ 0
+  pub chained : Chained (λ k. bucketOf (length st / 8) (placeAt st k .state)) (headAt st) (linkAt st) (length st / 8) count
+
+-- ---- finding and adding
+
+-- all but the scores agree
+unfoldable pub isSame : State → State → Bool
+isSame a b = eqb (a .word1) (b .word1) && (eqb (a .word2) (b .word2) && (eqb (a .covered) (b .covered) && eqb (a .r) (b .r)))
+
+-- what find_equal keeps on its way along the chain of x's bucket; at is 1 + the place to look at next, or 0
+abbrev pub Way : List ℤ → ℕ → State → ℕ → Type 0
+Way st count x at = Walk (λ k. bucketOf (length st / 8) (placeAt st k .state)) (λ k. isSame (placeAt st k .state) x) (bucketOf (length st / 8) x) count at
+
+-- no place below count holds an equal state
+abbrev pub Unseen : List ℤ → ℕ → State → Type 0
+Unseen st count x = (k : ℕ) → k < count → isSame (placeAt st k .state) x ≡ false
+
+-- a place below count that holds an equal state, or none does
+abbrev pub Located : List ℤ → ℕ → State → Found → Type 0
+Located st count x (At k) = (k < count) × (isSame (placeAt st k .state) x ≡ true)
+Located st count x Nothing = Unseen st count x
+
+-- the new one takes the old one's place: a higher score
+abbrev pub surpasses : State → State → Bool
+surpasses new old = ltZ (old .score) (new .score)
+
+-- an equal one was there, at k, and the test of the two came out as b
+pub record Met (st : List ℤ) (count : ℕ) (x : State) (k : ℕ) (b : Bool) : Type 0 where
+  pub inside : k < count
+  pub same : isSame (placeAt st k .state) x ≡ true
+  pub test : surpasses x (placeAt st k .state) ≡ b
+
+abbrev pub AddedOf : List ℤ → List ℤ → ℕ → Place → Added → Type 0
+AddedOf old new count x Replaced = (k : ℕ) × Met old count (x .state) k true × Put old new k x
+AddedOf old new count x Kept = (k : ℕ) × Met old count (x .state) k false × (new ≡ old)
+AddedOf old new count x Appended = Unseen old count (x .state) × (8 * count + 8 ≤ length old) × Put old new count x
+AddedOf old new count x Full = Unseen old count (x .state) × (length old < 8 * count + 8) × (new ≡ old)
+
+-- and the index after it
+abbrev pub IndexedAfter : List ℤ → ℕ → Added → Type 0
+IndexedAfter st count Replaced = Indexed st count
+IndexedAfter st count Kept = Indexed st count
+IndexedAfter st count Appended = Indexed st (count + 1)
+IndexedAfter st count Full = Unit
+
+-- ---- clearing
+
+-- the place k is zero, but for its head, and so is the head h
+pub record Zeroed (old new : List ℤ) (k h : ℕ) : Type 0 where
+  pub long : length new ≡ length old
+  pub place : (f : ℕ) → f < 8 → (f ≡ 6 → ⊥) → getD new (8 * k + f) (pos 0) ≡ pos 0
+  pub head : getD new (8 * h + 6) (pos 0) ≡ pos 0
+  pub places : (j f : ℕ) → (j ≡ k → ⊥) → f < 8 → (f ≡ 6 → ⊥) → getD new (8 * j + f) (pos 0) ≡ getD old (8 * j + f) (pos 0)
+  pub heads : (g : ℕ) → (g ≡ h → ⊥) → getD new (8 * g + 6) (pos 0) ≡ getD old (8 * g + 6) (pos 0)
+
+-- what clear_used keeps: the places below k are zero, and the heads of their buckets
+pub record Clearing (old new : List ℤ) (k : ℕ) : Type 0 where
+  pub long : length new ≡ length old
+  pub done : (j f : ℕ) → j < k → f < 8 → (f ≡ 6 → ⊥) → getD new (8 * j + f) (pos 0) ≡ pos 0
+  pub ahead : (j f : ℕ) → k ≤ j → f < 8 → (f ≡ 6 → ⊥) → getD new (8 * j + f) (pos 0) ≡ getD old (8 * j + f) (pos 0)
+  pub cleared : (j : ℕ) → j < k → getD new (8 * bucketOf (length old / 8) (placeAt old j .state) + 6) (pos 0) ≡ pos 0
+  pub heads : (h : ℕ) → (getD new (8 * h + 6) (pos 0) ≡ pos 0) ⊎ (getD new (8 * h + 6) (pos 0) ≡ getD old (8 * h + 6) (pos 0))

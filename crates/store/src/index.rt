@@ -1,0 +1,121 @@
+// The index of the store: its states in chains, by bucket.
+use crate::Added;
+use crate::Found;
+use crate::Place;
+use crate::numbers;
+use crate::places;
+use notes::State;
+ghost use mathlib.Core.Path.{_≡_};
+ghost use Prim.Native.Nat.{ℕ, _+_, _*_, _/_, _<_, _≤_};
+ghost use lib.ListN.{length};
+ghost use Rattle.store.specs.Store.{placeAt, headAt, linkAt, bucketOf, Relinked, Put, Storable, Indexed, IndexedAfter, Located, AddedOf, surpasses};
+
+// The bucket of a state, of as many as there are slots.
+fn bucket(slots: usize, x: State) -> usize
+    requires { ⌜ 0 < slots ⌝ }
+    ensures { λ r. ⌜ (r ≡ bucketOf slots x) × (r < slots) ⌝ }
+{
+    let words = places::words_of(x);
+    let n = words * 506952113 + x.covered as usize * 99338871 + x.r as usize * 313700925;
+    n / 1048576 % slots
+}
+
+// The bucket of the state at the place k.
+pub fn bucket_at(store: &[i64], k: usize) -> usize
+    requires { ⌜ 8 * k + 8 ≤ length (now store) ⌝ }
+    ensures { λ r. ⌜ (r ≡ bucketOf (length (now (store .entry)) / 8) (placeAt (now (store .entry)) k .state)) × (8 * r + 8 ≤ length (now (store .entry))) ⌝ }
+{
+    let x = places::place_at(store, k);
+    bucket(store.len() / 8, x.state)
+}
+
+// The head of the bucket h.
+fn head_at(store: &[i64], h: usize) -> usize
+    requires { ⌜ 8 * h + 8 ≤ length (now store) ⌝ }
+    ensures { λ r. ⌜ r ≡ headAt (now (store .entry)) h ⌝ }
+{
+    numbers::nat_at(store, 8 * h + 6)
+}
+
+// The link of the state at the place k.
+fn link_at(store: &[i64], k: usize) -> usize
+    requires { ⌜ 8 * k + 8 ≤ length (now store) ⌝ }
+    ensures { λ r. ⌜ r ≡ linkAt (now (store .entry)) k ⌝ }
+{
+    numbers::nat_at(store, 8 * k + 7)
+}
+
+// The place below count that holds a state equal to x, if there is one. It looks at the states of x's bucket only.
+pub fn find_equal(store: &[i64], count: usize, x: State) -> Found
+    requires { ⌜ Indexed (now store) count ⌝ }
+    ensures { λ r. ⌜ Located (now (store .entry)) count x r ⌝ }
+{
+    let mut at = head_at(store, bucket(store.len() / 8, x));
+    while at > 0 {
+        let k = at - 1;
+        if places::is_same_at(store, k, x) {
+            return Found::At(k);
+        }
+        at = link_at(store, k);
+    }
+    Found::Nothing
+}
+
+// The place k is put in front of the bucket h.
+fn link_place(store: &mut [i64], k: usize, h: usize)
+    requires { ⌜ (8 * k + 8 ≤ length (now store)) × (8 * h + 8 ≤ length (now store)) ⌝ }
+    ensures { λ _. ⌜ Relinked (now (store .entry)) (now (store .exit)) k h ⌝ }
+{
+    let p = 8 * h + 6;
+    store[8 * k + 7] = store[p];
+    store[p] = numbers::int(k + 1);
+}
+
+// One state more, at the place count. No place below count may hold an equal one, or find_equal will find one of the two.
+pub fn append_place(store: &mut [i64], count: usize, x: Place)
+    requires { ⌜ Indexed (now store) count ⌝ }
+    requires { ⌜ (8 * count + 8 ≤ length (now store)) × Storable x ⌝ }
+    ensures { λ _. ⌜ Put (now (store .entry)) (now (store .exit)) count x ⌝ }
+    ensures { λ _. ⌜ Indexed (now (store .exit)) (count + 1) ⌝ }
+{
+    places::put_place(store, count, x);
+    let h = bucket(store.len() / 8, x.state);
+    link_place(store, count, h);
+}
+
+// Of two equal states, the new one takes the old one's place.
+pub fn is_better(new: State, old: State) -> bool
+    ensures { λ r. ⌜ r ≡ surpasses new old ⌝ }
+{
+    let a = old.score;
+    let b = new.score;
+    a < b
+}
+
+// Adds x to the count states: it takes the place of an equal one if it is better, and a new place if there is no equal one.
+pub fn add_place(store: &mut [i64], count: usize, x: Place) -> Added
+    requires { ⌜ Indexed (now store) count ⌝ }
+    requires { ⌜ Storable x ⌝ }
+    ensures { λ r. ⌜ AddedOf (now (store .entry)) (now (store .exit)) count x r ⌝ }
+    ensures { λ r. ⌜ IndexedAfter (now (store .exit)) count r ⌝ }
+{
+    match find_equal(store, count, x.state) {
+        Found::At(k) => {
+            let old = places::place_at(store, k);
+            if is_better(x.state, old.state) {
+                places::put_place(store, k, x);
+                Added::Replaced
+            } else {
+                Added::Kept
+            }
+        }
+        Found::Nothing => {
+            if count < store.len() / 8 {
+                append_place(store, count, x);
+                Added::Appended
+            } else {
+                Added::Full
+            }
+        }
+    }
+}

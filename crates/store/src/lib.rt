@@ -1,0 +1,46 @@
+// The decoder's store: a lent `&mut [i64]`, eight numbers to a place, in the order in which the states are entered.
+//   number 0: word1 * 65,536 + word2     1: covered     2: r * 64 + size     3: score     4: the parent's place
+//   5: the option's number     6: the head of the bucket with this place's number     7: the link of this place's state
+// A head or a link is 1 + a place, or 0 for none.
+use notes::State;
+
+pub mod clearing;
+pub mod index;
+pub mod numbers;
+pub mod paths;
+pub mod places;
+pub mod reading;
+
+// What a place holds: a state, how many words it covers, the place of the state that was extended and the option that extended it.
+pub struct Place {
+    pub state: State,
+    pub size: usize,
+    pub parent: usize,
+    pub option: usize,
+}
+
+// Where an equal state is.
+pub enum Found {
+    At(usize),
+    Nothing,
+}
+
+// What was done with a state: it took the place of an equal one, or the equal one stayed, or it is a new one, or there was no place left.
+pub enum Added {
+    Replaced,
+    Kept,
+    Appended,
+    Full,
+}
+
+// For the search's loops: how many states there are then, or the store is too small.
+pub enum Grown {
+    On(usize),
+    Overflow,
+}
+
+// The best score of some states, if there are any.
+pub struct Top {
+    pub any: bool,
+    pub score: i64,
+}
