@@ -1,10 +1,20 @@
 -- What extending a state does to the store, and what the lists of a decode hold.
-use Prim.Native.Nat.{ℕ, _+_, _-_, _≤_, _<_}
+use Prim.Native.Nat.{ℕ, _+_, _-_, _^_, _≤_, _<_}
 use mathlib.Core.Path.{_≡_}
 use mathlib.Core.List.{List}
 use lib.IntN.{ℤ}
-use Rattle.notes.specs.Book.{Entry}
-use Rattle.derivation.specs.Next.{nextState, CanNext}
+use lib.ListN.{length, getD, drop}
+use Rattle.laws.specs.Bits.{bitsOf}
+use Rattle.coverage.specs.Runs.{freeRun}
+use Rattle.book.specs.Entries.{EntriesAt}
+use Rattle.notes.specs.Book.{Book, Entry, bookOf}
+use Rattle.notes.specs.Direction.{wordCount}
+use Rattle.notes.specs.Search.{stepAt, fittingSteps}
+use Rattle.derivation.specs.Next.{jumpFrom, nextState, CanNext}
+use Rattle.derivation.specs.Options.{OptionsOf}
+use Rattle.derivation.specs.Prepared.{Prepared}
+use Rattle.store.specs.Ghost.{optionAt, Chosen}
+use Rattle.decoder.specs.declared.Job.{Job}
 use Rattle.derivation.specs.declared.Task.{Task}
 use Rattle.derivation.specs.declared.Phrase.{Phrase}
 use Rattle.store.specs.Store.{AddedOf, IndexedAfter}
@@ -37,3 +47,31 @@ pub record Grows (old new : List ℤ) (count : ℕ) (y : Place) (r : Grown) : Ty
   pub added : AddedOf old new count y answer
   pub index : IndexedAfter new count answer
   pub is : r ≡ grownBy count answer
+
+-- ════ the lists of a decode
+
+-- they are those of this book and this direction: the language model, the entries' places and the steps that fit
+pub record Ready (loaded : List ℤ) (direction entries : List ℕ) (grams : List ℤ) (heads links options starts : List ℕ) (t : Task) : Type 0 where
+  pub prepared : Prepared loaded direction grams heads links t
+  pub entries-at : EntriesAt loaded entries (t .phrases)
+  pub entries-room : t .phrases ≤ length entries
+  pub options-of : OptionsOf (bookOf loaded) direction options starts
+  pub options-room : getD starts (wordCount direction) 0 ≤ length options
+  pub starts-room : 33 ≤ length starts
+
+-- the option o is entry k at the position `first`, which is in reach of the state of x, and where `run` positions are free
+pub record Turn (loaded : List ℤ) (direction entries : List ℕ) (grams : List ℤ) (heads links : List ℕ) (job : Job) (x : Place) (j first run o k : ℕ) : Type 0 where
+  pub prepared : Prepared loaded direction grams heads links (job .task)
+  pub entries-at : EntriesAt loaded entries (job .task .phrases)
+  pub entries-room : job .task .phrases ≤ length entries
+  pub chosen : Chosen (bookOf loaded) direction (job .width) (x .size) j x
+  pub place-small : j < 2 ^ 63
+  pub option-in : o < length (fittingSteps (bookOf loaded) direction)
+  pub option-small : o < 2 ^ 63
+  pub option-is : optionAt (bookOf loaded) direction o ≡ stepAt (bookOf loaded) first k
+  pub entry-from : 1 ≤ k
+  pub entry-to : k ≤ job .task .phrases
+  pub first-from : 1 ≤ first
+  pub first-to : first ≤ wordCount direction
+  pub run-is : run ≡ freeRun (drop (first - 1) (bitsOf (wordCount direction) (x .state .covered)))
+  pub near : jumpFrom (x .state .r) first ≤ job .task .limit

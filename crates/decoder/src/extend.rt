@@ -11,7 +11,11 @@ ghost use lib.ListN.{length, getD};
 ghost use Rattle.notes.specs.Book.{Entry};
 ghost use Rattle.derivation.specs.Model.{Model, PhraseOf, Phrased};
 ghost use Rattle.store.specs.Store.{Indexed, Storable};
-ghost use Rattle.decoder.specs.Extend.{Grows, nextPlace, CanPlace};
+ghost use Rattle.notes.specs.Book.{bookOf};
+ghost use Rattle.book.specs.Entries.{EntriesAt};
+ghost use Rattle.derivation.specs.Prepared.{Prepared};
+ghost use Rattle.store.specs.Ghost.{Chosen, Growing, Grew};
+ghost use Rattle.decoder.specs.Extend.{Grows, nextPlace, CanPlace, Turn};
 
 // The place that entry p at `first` leads to from the place j, which holds x.
 fn next_place(book: &[i32], grams: &[i32], heads: &[u16], links: &[u16], t: Task, p: Phrase, first: usize, x: Place, j: usize, option: usize) -> Place
@@ -42,4 +46,36 @@ fn grow(store: &mut [i64], count: usize, y: Place) -> Grown
         Added::Appended => Grown::On(count + 1),
         Added::Full => Grown::Overflow,
     }
+}
+
+// The state of the place j, which is x, is extended by the option o, entry k at the position `first`, where it may be: `run` positions
+// are free from there on. How many states there are then, or the store is too small. (`direction` is for the contract.)
+fn extend_option(
+    store: &mut [i64],
+    count: usize,
+    book: &[i32],
+    direction: &[u16],
+    entries: &[usize],
+    grams: &[i32],
+    heads: &[u16],
+    links: &[u16],
+    job: Job,
+    x: Place,
+    j: usize,
+    first: usize,
+    run: usize,
+    o: usize,
+    k: usize,
+) -> Grown
+    requires { ⌜ Turn (now book) (now direction) (now entries) (now grams) (now heads) (now links) job x j first run o k ⌝ }
+    requires { ⌜ Growing (bookOf (now book)) (now direction) (job .width) (x .size) j o (now store) count ⌝ }
+    ensures { λ r. ⌜ Grew (bookOf (now (book .entry))) (now (direction .entry)) (job .width) (x .size) j (o + 1) (now (store .exit)) r ⌝ }
+{
+    let t = job.task;
+    let p = derivation::places::phrase_at(book, entries, t.phrases, k);
+    if run < p.long {
+        return Grown::On(count);
+    }
+    let y = next_place(book, grams, heads, links, t, p, first, x, j, o);
+    grow(store, count, y)
 }

@@ -1,2 +1,5 @@
 pub mod Says
 pub mod Next
+pub mod Entries
+pub mod Fits
+pub mod Listing

@@ -1,3 +1,4 @@
 pub mod Model
 pub mod Next
 pub mod Prepared
+pub mod Options

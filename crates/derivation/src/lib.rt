@@ -1,5 +1,6 @@
 // Steps on plain numbers: what an entry says, where it fits, what it adds to a score, and the state that it leads to.
 pub mod model;
+pub mod places;
 pub mod step;
 
 // The numbers of a book and a direction that every step needs: how many words the direction has, the reordering limit, the

@@ -1,0 +1,114 @@
+-- One option of a state: where it may extend it, and what is added then.
+use Prim.Native.Nat.{ℕ, suc, _+_, _-_, _*_, _^_, _/_, _≤_, _<_}
+use native.Mathlib.Omega.{arith}
+use mathlib.Core.Path.{_≡_, refl, sym, _∙_, ap, subst}
+use mathlib.Core.Bool.{Bool, true, false, _&&_, and-true}
+use mathlib.Core.List.{List, List·Memᴰ}
+use borrow.Author.Tests.{le-leb, lt-leb}
+use lib.Dec.{leb}
+use lib.IntN.{ℤ}
+use lib.ListN.{length, drop}
+use Rattle.laws.specs.Bits.{bitsOf}
+use Rattle.laws.specs.Integers.{Within}
+use Rattle.laws.proofs.Bits.{bits-length}
+use Rattle.laws.proofs.Bounds.{within-mono}
+use Rattle.laws.proofs.Lists.{getD-mem}
+use Rattle.laws.proofs.Tests.{both-of}
+use Rattle.coverage.specs.Runs.{freeRun}
+use Rattle.coverage.proofs.Laws.{free-run}
+use Rattle.search_theory.specs.Search.{run}
+use Rattle.notes.specs.Book.{Book, bookOf}
+use Rattle.notes.specs.Direction.{wordCount}
+use Rattle.notes.specs.Derivation.{entryAt, fits, jump}
+use Rattle.notes.specs.State.{Key, wordsCovered, isFree, mayExtend, keyOf, gainBound, scoreBound}
+use Rattle.notes.specs.Search.{stepAt, fittingSteps, search}
+use Rattle.notes.specs.declared.Step.{Step}
+use Rattle.notes.proofs.Steps.{Fits, fits-facts, fits-size, listed-fits}
+use Rattle.notes.proofs.Ranges.{loaded-ranged}
+use Rattle.derivation.specs.Model.{PhraseOf}
+use Rattle.derivation.specs.Next.{jumpFrom}
+use Rattle.derivation.specs.declared.Phrase.{Phrase}
+use Rattle.store.specs.Shows.{noStep}
+use Rattle.store.specs.Store.{Storable, AddedOf, IndexedAfter}
+use Rattle.store.specs.Ghost.{optionAt, Chosen, Growing, Grew, After, NextPlace}
+use Rattle.store.specs.declared.Place.{Place}
+use Rattle.store.specs.declared.Added.{Added}
+use Rattle.store.specs.declared.Added.the-variants.{Replaced, Kept, Appended, Full}
+use Rattle.store.specs.declared.Grown.{Grown}
+use Rattle.store.proofs.Ghost.{skipped, went, chosen-score, next-storable}
+use Rattle.decoder.specs.Extend.{nextPlace, CanPlace, grownBy, Grows, Turn}
+use Rattle.decoder.specs.declared.Job.{Job}
+use Rattle.decoder.proofs.Placed.{can-place, next-place}
+
+module _ (loaded : List ℤ) (direction entries : List ℕ) (grams : List ℤ) (heads links : List ℕ) (job : Job) (x : Place) (j first run o k : ℕ)
+    (T : Turn loaded direction entries grams heads links job x j first run o k) (p : Phrase) (of : PhraseOf loaded (entryAt (bookOf loaded) k) p) where
+  abbrev book : Book
+  book = bookOf loaded
+
+  abbrev n : ℕ
+  n = wordCount direction
+
+  abbrev step : Step
+  step = stepAt book first k
+
+  fit : fits book direction step ≡ true
+  fit = listed-fits book direction step (subst (λ (s : Step). List·Memᴰ s (fittingSteps book direction)) (T .option-is) (getD-mem (fittingSteps book direction) o noStep (T .option-in)))
+
+  facts : Fits book direction step
+  facts = fits-facts book direction step fit
+
+  -- it overlaps nothing exactly where its words fit into the run
+  free-is : isFree step 1 (keyOf n (x .state) .covered) ≡ leb (p .long) run
+  unfolding keyOf wordCount
+  free-is =
+      let l = facts .last-to in
+      let b : length (bitsOf n (x .state .covered)) ≡ n = bits-length n (x .state .covered) in
+      let s = fits-size book direction step facts in
+      let m = of .source-at .many-are in
+      let z : step .last + 1 - step .first ≡ p .long = omega arith in
+      free-run step (bitsOf n (x .state .covered)) (facts .first-from) (facts .first-to) (omega arith) ∙ rw (z, T .run-is)
+
+  near-is : leb (jump (keyOf n (x .state) .r) step) (book .limit) ≡ true
+  unfolding keyOf jump
+  near-is = le-leb (jumpFrom (x .state .r) first) (book .limit) (let h = T .near in let e = T .prepared .limit-is in omega arith)
+
+  may-is : (b : Bool) → leb (p .long) run ≡ b → mayExtend book direction (keyOf n (x .state)) (optionAt book direction o) ≡ b
+  unfolding mayExtend
+  may-is b e = ap (mayExtend book direction (keyOf n (x .state))) (T .option-is) ∙ rw (fit, free-is, e, near-is) (and-true b)
+
+  -- the run is too short: nothing is added
+  pub turn-skips : {st : List ℤ} {count : ℕ} → Growing book direction (job .width) (x .size) j o st count → run < p .long → Growing book direction (job .width) (x .size) j (o + 1) st count
+  turn-skips G h = skipped book direction (job .width) (T .chosen) (T .option-in) G (may-is false (lt-leb (p .long) run h))
+
+  module _ (h : p .long ≤ run) where
+    free : isFree step 1 (keyOf n (x .state) .covered) ≡ true
+    free = free-is ∙ le-leb (p .long) run h
+
+    size-to : x .size ≤ n
+    size-to = let l = T .chosen .low in let e = T .chosen .sized in omega arith
+
+    pub turn-can : CanPlace (job .task) p first x
+    turn-can =
+        let N = T .chosen .shown .fine .few in
+        let s = size-to in
+        can-place loaded direction grams heads links (job .task) (T .prepared) p k first of x (T .chosen .shown .fine) fit free (T .near)
+        (within-mono (omega arith) (chosen-score book direction (job .width) (loaded-ranged loaded (T .prepared .passed)) (T .chosen))) s
+
+    pub turn-next : NextPlace book direction x j o (nextPlace grams (job .task) p (entryAt book k) first x j o)
+    turn-next = next-place loaded direction grams heads links (job .task) (T .prepared) p k first of x (T .chosen .shown .fine) fit free j o (T .option-is) (T .chosen .shown .size-is)
+
+    -- each answer of add_place goes one option further
+    pub turn-grows : (y : Place) → y ≡ nextPlace grams (job .task) p (entryAt book k) first x j o → {st st′ : List ℤ} {count : ℕ} → Growing book direction (job .width) (x .size) j o st count
+        → (r : Grown) → Grows st st′ count y r → Grew book direction (job .width) (x .size) j (o + 1) st′ r
+    turn-grows y e {st} {st′} {count} G r g =
+        rw (g .is) (by (g .answer)
+        (went book direction (job .width) (T .chosen) (T .option-in) G (may-is true (le-leb (p .long) run h)) (subst (NextPlace book direction x j o) (sym e) turn-next) st′ (g .answer) (g .added) (g .index)))
+      where
+        by : (a : Added) → After book direction (job .width) (x .size) j (o + 1) st′ count a → Grew book direction (job .width) (x .size) j (o + 1) st′ (grownBy count a)
+        by Replaced u = u
+        by Kept u = u
+        by Appended u = u
+        by Full u = u
+
+    pub turn-storable : (y : Place) → y ≡ nextPlace grams (job .task) p (entryAt book k) first x j o → Storable y
+    turn-storable y e = subst Storable (sym e) (next-storable book direction (job .width) turn-next (T .place-small) (T .option-small))

@@ -1,0 +1,28 @@
+// An entry of the book by its places in the loaded list.
+use crate::Phrase;
+ghost use mathlib.Core.Path.{_≡_};
+ghost use Prim.Native.Nat.{ℕ, _+_, _≤_, _<_};
+ghost use lib.ListN.{length, getD};
+ghost use Rattle.notes.specs.Book.{bookOf};
+ghost use Rattle.notes.specs.Derivation.{entryAt};
+ghost use Rattle.book.specs.Entries.{EntriesAt};
+ghost use Rattle.derivation.specs.Model.{PhraseOf};
+
+// Entry k of the book, counted from 1.
+pub fn phrase_at(book: &[i32], entries: &[usize], count: usize, k: usize) -> Phrase
+    requires { ⌜ EntriesAt (now book) (now entries) count ⌝ }
+    requires { ⌜ (1 ≤ k) × ((k ≤ count) × (count ≤ length (now entries))) ⌝ }
+    ensures { λ p. ⌜ PhraseOf (now (book .entry)) (entryAt (bookOf (now (book .entry))) k) p ⌝ }
+{
+    let at = entries[k - 1];
+    let long = book::line::natural_at(book, at + 1);
+    let count = book::line::natural_at(book, at + 2);
+    let g = book::line::number_at(book, at + (3 + long + count));
+    Phrase {
+        source: at + 3,
+        long,
+        target: at + (3 + long),
+        count,
+        g: g as i64,
+    }
+}
