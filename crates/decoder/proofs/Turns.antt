@@ -7,7 +7,7 @@ use mathlib.Core.List.{List, List·Memᴰ}
 use borrow.Author.Tests.{le-leb, lt-leb}
 use lib.Dec.{leb}
 use lib.IntN.{ℤ}
-use lib.ListN.{length, drop}
+use lib.ListN.{length, getD, drop}
 use Rattle.laws.specs.Bits.{bitsOf}
 use Rattle.laws.specs.Integers.{Within}
 use Rattle.laws.proofs.Bits.{bits-length}
@@ -36,7 +36,7 @@ use Rattle.store.specs.declared.Added.{Added}
 use Rattle.store.specs.declared.Added.the-variants.{Replaced, Kept, Appended, Full}
 use Rattle.store.specs.declared.Grown.{Grown}
 use Rattle.store.proofs.Ghost.{skipped, went, chosen-score, next-storable}
-use Rattle.decoder.specs.Extend.{nextPlace, CanPlace, grownBy, Grows, Turn}
+use Rattle.decoder.specs.Extend.{nextPlace, CanPlace, grownBy, Grows, Turn, Turns}
 use Rattle.decoder.specs.declared.Job.{Job}
 use Rattle.decoder.proofs.Placed.{can-place, next-place}
 
@@ -112,3 +112,25 @@ module _ (loaded : List ℤ) (direction entries : List ℕ) (grams : List ℤ) (
 
     pub turn-storable : (y : Place) → y ≡ nextPlace grams (job .task) p (entryAt book k) first x j o → Storable y
     turn-storable y e = subst Storable (sym e) (next-storable book direction (job .width) turn-next (T .place-small) (T .option-small))
+
+-- one of several options at a position
+pub turn-of : {loaded : List ℤ} {direction entries : List ℕ} {grams : List ℤ} {heads links options : List ℕ} {job : Job} {x : Place} {j first run from to : ℕ}
+    → Turns loaded direction entries grams heads links options job x j first run from to → (o : ℕ) → from ≤ o → o < to
+    → Turn loaded direction entries grams heads links job x j first run o (getD options o 0)
+turn-of T o a b =
+    record {
+      prepared = T .prepared;
+      entries-at = T .entries-at;
+      entries-room = T .entries-room;
+      chosen = T .chosen;
+      place-small = T .place-small;
+      option-in = (let h = T .options-in in omega arith);
+      option-small = (let h = T .options-small in omega arith);
+      option-is = T .option-is o a b;
+      entry-from = T .entry-in o a b .0;
+      entry-to = T .entry-in o a b .1;
+      first-from = T .first-from;
+      first-to = T .first-to;
+      run-is = T .run-is;
+      near = T .near;
+    }

@@ -75,3 +75,21 @@ pub record Turn (loaded : List ℤ) (direction entries : List ℕ) (grams : List
   pub first-to : first ≤ wordCount direction
   pub run-is : run ≡ freeRun (drop (first - 1) (bitsOf (wordCount direction) (x .state .covered)))
   pub near : jumpFrom (x .state .r) first ≤ job .task .limit
+
+-- the options from `from` to `to` stand at the position `first`, which is in reach of the state of x, and where `run` positions are free
+pub record Turns (loaded : List ℤ) (direction entries : List ℕ) (grams : List ℤ) (heads links options : List ℕ) (job : Job) (x : Place) (j first run from to : ℕ) : Type 0 where
+  pub prepared : Prepared loaded direction grams heads links (job .task)
+  pub entries-at : EntriesAt loaded entries (job .task .phrases)
+  pub entries-room : job .task .phrases ≤ length entries
+  pub chosen : Chosen (bookOf loaded) direction (job .width) (x .size) j x
+  pub place-small : j < 2 ^ 63
+  pub rising : from ≤ to
+  pub options-in : to ≤ length (fittingSteps (bookOf loaded) direction)
+  pub options-room : to ≤ length options
+  pub options-small : to < 2 ^ 63
+  pub option-is : (o : ℕ) → from ≤ o → o < to → optionAt (bookOf loaded) direction o ≡ stepAt (bookOf loaded) first (getD options o 0)
+  pub entry-in : (o : ℕ) → from ≤ o → o < to → (1 ≤ getD options o 0) × (getD options o 0 ≤ job .task .phrases)
+  pub first-from : 1 ≤ first
+  pub first-to : first ≤ wordCount direction
+  pub run-is : run ≡ freeRun (drop (first - 1) (bitsOf (wordCount direction) (x .state .covered)))
+  pub near : jumpFrom (x .state .r) first ≤ job .task .limit

@@ -15,10 +15,21 @@ ghost use Rattle.notes.specs.Book.{bookOf};
 ghost use Rattle.book.specs.Entries.{EntriesAt};
 ghost use Rattle.derivation.specs.Prepared.{Prepared};
 ghost use Rattle.store.specs.Ghost.{Chosen, Growing, Grew};
-ghost use Rattle.decoder.specs.Extend.{Grows, nextPlace, CanPlace, Turn};
+ghost use Rattle.decoder.specs.Extend.{Grows, nextPlace, CanPlace, Turn, Turns};
 
 // The place that entry p at `first` leads to from the place j, which holds x.
-fn next_place(book: &[i32], grams: &[i32], heads: &[u16], links: &[u16], t: Task, p: Phrase, first: usize, x: Place, j: usize, option: usize) -> Place
+fn next_place(
+    book: &[i32],
+    grams: &[i32],
+    heads: &[u16],
+    links: &[u16],
+    t: Task,
+    p: Phrase,
+    first: usize,
+    x: Place,
+    j: usize,
+    option: usize,
+) -> Place
     requires { ⌜ Model (now grams) (now heads) (now links) t ⌝ }
     requires { ⌜ Phrased (now book) p ⌝ }
     requires { ⌜ CanPlace t p first x ⌝ }
@@ -78,4 +89,56 @@ fn extend_option(
     }
     let y = next_place(book, grams, heads, links, t, p, first, x, j, o);
     grow(store, count, y)
+}
+
+// It is extended by the options from `from` to `to`, which all stand at the position `first`.
+fn extend_at(
+    store: &mut [i64],
+    count: usize,
+    book: &[i32],
+    direction: &[u16],
+    entries: &[usize],
+    grams: &[i32],
+    heads: &[u16],
+    links: &[u16],
+    options: &[u16],
+    job: Job,
+    x: Place,
+    j: usize,
+    first: usize,
+    run: usize,
+    from: usize,
+    to: usize,
+) -> Grown
+    requires { ⌜ Turns (now book) (now direction) (now entries) (now grams) (now heads) (now links) (now options) job x j first run from to ⌝ }
+    requires { ⌜ Growing (bookOf (now book)) (now direction) (job .width) (x .size) j from (now store) count ⌝ }
+    ensures { λ r. ⌜ Grew (bookOf (now (book .entry))) (now (direction .entry)) (job .width) (x .size) j to (now (store .exit)) r ⌝ }
+{
+    let mut c = count;
+    let mut o = from;
+    while o < to {
+        let k = options[o] as usize;
+        let Grown::On(more) = extend_option(
+            store,
+            c,
+            book,
+            direction,
+            entries,
+            grams,
+            heads,
+            links,
+            job,
+            x,
+            j,
+            first,
+            run,
+            o,
+            k,
+        ) else {
+            return Grown::Overflow;
+        };
+        c = more;
+        o += 1;
+    }
+    Grown::On(c)
 }

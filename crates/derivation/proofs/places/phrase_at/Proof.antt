@@ -88,7 +88,7 @@ cast-t13 c =
     let h = entry (c .before .before .before .before .before) in
     let p : i32 (c .number-at .result) ≡ c .number-at .result = search needs in
     let r : c .number-at .result ≡ numberAt (s .book .now) (at + (3 + naturalAt (s .book .now) (at + 1) + naturalAt (s .book .now) (at + 2))) =
-        rw (c .before .before .natural-at .ensures, c .before .natural-at2 .ensures) at (c .number-at .ensures) in
+    rw (c .before .before .natural-at .ensures, c .before .natural-at2 .ensures) at (c .number-at .ensures) in
     rw p (within-fits w64 {B = 1_000_000} (subst (Within 1_000_000) (sym r) (h .g-within)) (omega arith))
 
 -- src/places.rt:12:1
