@@ -100,11 +100,16 @@ lines-broken l h b = by (sizeOf l) refl
     no : isWhole l ≡ false
     no = whole-not l (λ (e : length l ≡ sizeOf l). let z : sizeOf l ≡ 0 = b (omega arith) in omega arith)
 
+    cut : (s : ℕ) → sizeOf l ≡ suc s → length l ≤ suc s
+    cut s e =
+        by-test (leb (sizeOf l) (length l))
+        (λ t. let z : sizeOf l ≡ 0 = b (leb-true (sizeOf l) (length l) t) in omega arith)
+        (λ f. let z = leb-false (sizeOf l) (length l) f in omega arith)
+
     by : (n : ℕ) → sizeOf l ≡ n → all isWhole (loadedLines l) ≡ false
     by zero e = ap (all isWhole) (lines-none l h e) ∙ rw no
     by (suc s) e =
-        ap (all isWhole) (lines-some l s h e)
-        ∙ (let t : take (suc s) l ≡ l = take-all (suc s) l (by-test (leb (sizeOf l) (length l)) (λ t. let z : sizeOf l ≡ 0 = b (leb-true (sizeOf l) (length l) t) in omega arith) (λ f. let z = leb-false (sizeOf l) (length l) f in omega arith)) in rw (t, no))
+        ap (all isWhole) (lines-some l s h e) ∙ (let t : take (suc s) l ≡ l = take-all (suc s) l (cut s e) in rw (t, no))
 
 -- ---- the line that stands at a place of the list
 

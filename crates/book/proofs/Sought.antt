@@ -4,6 +4,7 @@ use native.Mathlib.Omega.{arith}
 use mathlib.Core.Path.{_≡_, refl, sym, _∙_, ap}
 use mathlib.Core.Bool.{true, false, _&&_, cond}
 use mathlib.Core.List.{List, [], _∷_}
+use borrow.Author.Tests.{eqb-true}
 use lib.Dec.{eqb}
 use lib.IntN.{ℤ, pos}
 use lib.ListN.{length, take, drop, drop-of-length-le}
@@ -13,7 +14,8 @@ use Rattle.laws.specs.Lists.{all}
 use Rattle.laws.proofs.Lists.{part-size}
 use Rattle.laws.proofs.Order.{yes-≡}
 use Rattle.laws.proofs.Tests.{by-test, both}
-use Rattle.notes.specs.Book.{numberAt, naturalAt, isP, isPhraseLength, sizeOf, isWhole, loadedLines, Part, targetPartFrom, partOf}
+use Rattle.notes.specs.Book.{numberAt, naturalAt, isP, isPhraseLength, sizeOf, isWhole, loadedLines, Part, targetPartFrom, partOf, bookRefusal, targetPart}
+use Rattle.notes.proofs.Ranges.{lines-passed}
 use Rattle.book.specs.declared.target.Part.{Part as Found}
 use Rattle.book.specs.Target.{IsPart}
 use Rattle.book.proofs.Cuts.{LineAt, lines-end, line-number, kind-same, line-long}
@@ -82,3 +84,21 @@ pub part-is : {loaded : List ℤ} {found : Found} {part : Part} → IsPart loade
     → take ((found .start + found .size) - found .start) (drop (found .start) loaded) ≡ partOf part loaded
 unfolding partOf
 part-is {loaded} {found} {part} p = part-size loaded (found .start) (found .size) ∙ rw (p .start-is, p .size-is)
+
+-- ---- a list that 2 to 6 pass, and one that they refuse
+
+pub target-passed : (loaded : List ℤ) (entry : ℕ) → eqb (bookRefusal loaded) 0 ≡ true → targetPart loaded entry ≡ targetPartFrom entry 0 (loadedLines loaded)
+unfolding targetPart
+target-passed loaded entry t = rw t
+
+pub target-refused : (loaded : List ℤ) (entry : ℕ) → eqb (bookRefusal loaded) 0 ≡ false → targetPart loaded entry ≡ record { start = length loaded; size = 0 }
+unfolding targetPart
+target-refused loaded entry f = rw f
+
+pub passed-whole : (loaded : List ℤ) → eqb (bookRefusal loaded) 0 ≡ true → all isWhole (loadedLines loaded) ≡ true
+unfolding bookRefusal
+passed-whole loaded t = lines-passed (loadedLines loaded) (eqb-true (bookRefusal loaded) 0 t) .whole
+
+pub end-part : (loaded : List ℤ) → take (length loaded - length loaded) (drop (length loaded) loaded) ≡ partOf (record { start = length loaded; size = 0 }) loaded
+unfolding partOf
+end-part loaded = let z : length loaded - length loaded ≡ 0 = omega arith in rw z

@@ -39,12 +39,14 @@ pub fn is_kind(line: &[i32], k: usize) -> bool
     if x < 0 { false } else { x as usize == k }
 }
 
+// The number of source or of target words of a P line.
 fn is_phrase_length(x: i32) -> bool
     ensures { λ r. ⌜ r ≡ isPhraseLength x ⌝ }
 {
     1 <= x && x <= 8
 }
 
+// How many numbers a P line takes; 0 where a or b is out of its range.
 fn size_of_phrase(line: &[i32]) -> usize
     ensures { λ r. ⌜ r ≡ phraseSize (now (line .entry)) ⌝ }
 {
@@ -83,18 +85,21 @@ pub fn is_whole(line: &[i32]) -> bool
     line.len() == size_of(line)
 }
 
+// A score u, g or s.
 pub fn is_score(x: i32) -> bool
     ensures { λ r. ⌜ r ≡ isScore x ⌝ }
 {
     -1_000_000 <= x && x <= 1_000_000
 }
 
+// A word of a phrase, or the word y of a triple.
 pub fn is_word(x: i32) -> bool
     ensures { λ r. ⌜ r ≡ isWord x ⌝ }
 {
     1 <= x && x <= 65_535
 }
 
+// The word v or w of a triple.
 fn is_word_or_start(x: i32) -> bool
     ensures { λ r. ⌜ r ≡ isWordOrStart x ⌝ }
 {

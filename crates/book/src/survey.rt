@@ -32,12 +32,14 @@ pub fn fresh() -> Survey
     }
 }
 
+// How many more, where the test passes.
 fn one(test: bool) -> usize
     ensures { λ r. ⌜ r ≡ one test ⌝ }
 {
     if test { 1 } else { 0 }
 }
 
+// Both of two tests that were made already.
 fn and_also(a: bool, b: bool) -> bool
     ensures { λ r. ⌜ r ≡ a && b ⌝ }
 {
@@ -51,7 +53,7 @@ fn of_first(lines: usize, here: bool, before: bool) -> bool
     if lines == 0 { here } else { before }
 }
 
-// One line more.
+// One line more, of which there may be 2 ^ 62 before a count could pass its type.
 pub fn with_line(acc: Survey, line: &[i32]) -> Survey
     requires { ⌜ Few acc 4611686018427387904 ⌝ }
     ensures { λ r. ⌜ r ≡ withLine acc (now (line .entry)) ⌝ }

@@ -7,7 +7,7 @@ ghost use Prim.Native.Nat.{_-_, _≤_};
 ghost use lib.Dec.{eqb};
 ghost use lib.ListN.{length, drop};
 ghost use Rattle.laws.specs.Lists.{all};
-ghost use Rattle.notes.specs.Book.{isP, isWhole, loadedLines, targetPartFrom};
+ghost use Rattle.notes.specs.Book.{isP, isWhole, loadedLines, targetPartFrom, bookRefusal, targetPart};
 ghost use Rattle.book.specs.Target.{IsPart, IsPartOf};
 
 // A part of a list: where it starts, and how many numbers it has.
@@ -71,4 +71,17 @@ pub fn target_of(book: &[i32], entry: usize) -> &[i32]
     let start = part.start;
     let end = start + part.size;
     &book[start..end]
+}
+
+// An entry's target words as document 01 gives them, where it is known whether the list passes 2 to 6: the empty part at the
+// list's end where it does not.
+pub fn target_if(book: &[i32], entry: usize, passed: bool) -> &[i32]
+    requires { ⌜ passed ≡ eqb (bookRefusal (now book)) 0 ⌝ }
+    ensures { λ r. ⌜ IsPartOf (book .entry) r (targetPart (now (book .entry)) entry) ⌝ }
+{
+    if !passed {
+        let end = book.len();
+        return &book[end..];
+    }
+    target_of(book, entry)
 }

@@ -1,9 +1,11 @@
 -- One option of a state: where it may extend it, and what is added then.
-use Prim.Native.Nat.{ℕ, suc, _+_, _-_, _*_, _^_, _/_, _≤_, _<_}
+use Prim.Native.Nat.{ℕ, zero, suc, _+_, _-_, _*_, _^_, _/_, _≤_, _<_}
 use native.Mathlib.Omega.{arith}
 use mathlib.Core.Path.{_≡_, refl, sym, _∙_, ap, subst}
-use mathlib.Core.Bool.{Bool, true, false, _&&_, and-true}
+use mathlib.Core.Bool.{Bool, true, false, _&&_, and-true, and-false}
 use mathlib.Core.List.{List, List·Memᴰ}
+use native.Mathlib.Decide.{ℕ-discrete}
+use native.Mathlib.Numerals.{add-one}
 use borrow.Author.Tests.{le-leb, lt-leb}
 use lib.Dec.{leb}
 use lib.IntN.{ℤ}
@@ -36,7 +38,7 @@ use Rattle.store.specs.declared.Added.{Added}
 use Rattle.store.specs.declared.Added.the-variants.{Replaced, Kept, Appended, Full}
 use Rattle.store.specs.declared.Grown.{Grown}
 use Rattle.store.proofs.Ghost.{skipped, went, chosen-score, next-storable}
-use Rattle.decoder.specs.Extend.{nextPlace, CanPlace, grownBy, Grows, Turn, Turns}
+use Rattle.decoder.specs.Extend.{nextPlace, CanPlace, grownBy, Grows, Turn, Turns, Ready, Spot}
 use Rattle.decoder.specs.declared.Job.{Job}
 use Rattle.decoder.proofs.Placed.{can-place, next-place}
 
@@ -134,3 +136,118 @@ turn-of T o a b =
       run-is = T .run-is;
       near = T .near;
     }
+
+-- what does not fall from one place to the next does not fall
+climbs : (f : ℕ → ℕ) (i m : ℕ) → ((k : ℕ) → i ≤ k → k < i + m → f k ≤ f (suc k)) → f i ≤ f (i + m)
+climbs f i zero up = let e : i + zero ≡ i = omega arith in rw e (omega arith)
+climbs f i (suc m) up =
+    let a : f i ≤ f (i + m) = climbs f i m (λ k l h. up k l (omega arith)) in
+    let b : f (i + m) ≤ f (suc (i + m)) = up (i + m) (omega arith) (omega arith) in
+    let e : i + suc m ≡ suc (i + m) = omega arith in
+    rw e (omega arith)
+
+-- several options that may not extend the state
+module _ (bk : Book) (direction : List ℕ) (width : ℤ) (i j : ℕ) (x : Place) (A : Chosen bk direction width i j x) (from : ℕ) (st : List ℤ) (count : ℕ) where
+  skip-all : (many : ℕ) → from + many ≤ length (fittingSteps bk direction)
+      → ((o : ℕ) → from ≤ o → o < from + many → mayExtend bk direction (keyOf (wordCount direction) (x .state)) (optionAt bk direction o) ≡ false)
+      → Growing bk direction width i j from st count → Growing bk direction width i j (from + many) st count
+  skip-all zero h never G =
+      let e : from ≡ from + zero = omega arith in
+      subst (λ (o : ℕ). Growing bk direction width i j o st count) e G
+  skip-all (suc many) h never G =
+      let F : Growing bk direction width i j (from + many) st count = skip-all many (omega arith) (λ o a b. never o a (omega arith)) G in
+      let e : from + many + 1 ≡ from + suc many = omega arith in
+      subst (λ (o : ℕ). Growing bk direction width i j o st count) e
+      (skipped bk direction width A (omega arith) F (never (from + many) (omega arith) (omega arith)))
+
+-- the options of a position, from where they begin to where the next position's begin
+module _ {loaded : List ℤ} {direction entries : List ℕ} {grams : List ℤ} {heads links options starts : List ℕ} {job : Job} {x : Place} {j i run : ℕ}
+    (R : Ready loaded direction entries grams heads links options starts (job .task)) (S : Spot loaded direction job x j i run) where
+  abbrev book′ : Book
+  book′ = bookOf loaded
+
+  abbrev n′ : ℕ
+  n′ = wordCount direction
+
+  abbrev from : ℕ
+  from = getD starts i 0
+
+  abbrev to : ℕ
+  to = getD starts (i + 1) 0
+
+  to-end : to ≤ getD starts n′ 0
+  to-end = let h = S .inside in
+      let z : i + 1 + (n′ - (i + 1)) ≡ n′ = omega arith in
+      rw z at (climbs (λ k. getD starts k 0) (i + 1) (n′ - (i + 1)) (λ k a b. rw add-one at (R .options-of .rising k (omega arith))))
+
+  step-fits : (o : ℕ) → from ≤ o → o < to → fits book′ direction (stepAt book′ (i + 1) (getD options o 0)) ≡ true
+  step-fits o a b =
+      let l = R .options-of .ends in
+      let e = to-end in
+      listed-fits book′ direction _
+      (subst (λ (s : Step). List·Memᴰ s (fittingSteps book′ direction)) (R .options-of .each i o (S .inside) a b) (getD-mem (fittingSteps book′ direction) o noStep (omega arith)))
+
+  pub spot-turns : jumpFrom (x .state .r) (i + 1) ≤ job .task .limit
+      → Turns loaded direction entries grams heads links options job x j (i + 1) run from to
+  spot-turns near =
+      let e = to-end in
+      let r = R .options-room in
+      let l = R .options-of .ends in
+      let m = R .prepared .phrases-are in
+      record {
+        prepared = R .prepared;
+        entries-at = R .entries-at;
+        entries-room = R .entries-room;
+        chosen = S .chosen;
+        place-small = S .place-small;
+        rising = R .options-of .rising i (S .inside);
+        options-in = omega arith;
+        options-room = omega arith;
+        options-small = (let s = R .options-small in omega arith);
+        option-is = λ o a b. R .options-of .each i o (S .inside) a b;
+        entry-in = λ o a b. let q = R .options-of .entries-in o (omega arith) in (q .0, (let z = q .1 in omega arith));
+        first-from = omega arith;
+        first-to = (let h = S .inside in omega arith);
+        run-is = (let z : i + 1 - 1 ≡ i = omega arith in rw z (S .run-is));
+        near = near;
+      }
+
+  -- none of them may extend the state
+  spot-skips : ((o : ℕ) → from ≤ o → o < to → mayExtend book′ direction (keyOf n′ (x .state)) (stepAt book′ (i + 1) (getD options o 0)) ≡ false)
+      → {st : List ℤ} {count : ℕ} → Growing book′ direction (job .width) (x .size) j from st count → Growing book′ direction (job .width) (x .size) j to st count
+  spot-skips never {st} {count} G =
+      let e = to-end in
+      let l = R .options-of .ends in
+      let r : from ≤ to = R .options-of .rising i (S .inside) in
+      let z : from + (to - from) ≡ to = omega arith in
+      subst (λ (o : ℕ). Growing book′ direction (job .width) (x .size) j o st count) z
+      (skip-all book′ direction (job .width) (x .size) j x (S .chosen) from st count (to - from) (omega arith)
+      (λ o a b. ap (mayExtend book′ direction (keyOf n′ (x .state))) (R .options-of .each i o (S .inside) a (omega arith)) ∙ never o a (omega arith)) G)
+
+  -- the position is out of reach
+  pub far-skips : job .task .limit < jumpFrom (x .state .r) (i + 1)
+      → {st : List ℤ} {count : ℕ} → Growing book′ direction (job .width) (x .size) j from st count → Growing book′ direction (job .width) (x .size) j to st count
+  unfolding mayExtend keyOf jump
+  far-skips far =
+      spot-skips (λ o a b.
+      let q : leb (jumpFrom (x .state .r) (i + 1)) (book′ .limit) ≡ false = lt-leb (jumpFrom (x .state .r) (i + 1)) (book′ .limit) (let e = R .prepared .limit-is in omega arith) in
+      rw (q, and-false) refl)
+
+  -- the position is covered
+  pub covered-skips : run ≡ 0
+      → {st : List ℤ} {count : ℕ} → Growing book′ direction (job .width) (x .size) j from st count → Growing book′ direction (job .width) (x .size) j to st count
+  unfolding mayExtend keyOf wordCount
+  covered-skips none = spot-skips (λ o a b. by o (step-fits o a b))
+    where
+      by : (o : ℕ) → fits book′ direction (stepAt book′ (i + 1) (getD options o 0)) ≡ true
+          → mayExtend book′ direction (keyOf n′ (x .state)) (stepAt book′ (i + 1) (getD options o 0)) ≡ false
+      by o fit =
+          let step : Step = stepAt book′ (i + 1) (getD options o 0) in
+          let F = fits-facts book′ direction step fit in
+          let l = F .last-to in
+          let b : length (bitsOf n′ (x .state .covered)) ≡ n′ = bits-length n′ (x .state .covered) in
+          let z : i + 1 - 1 ≡ i = omega arith in
+          let q : isFree step 1 (bitsOf n′ (x .state .covered)) ≡ false =
+          free-run step (bitsOf n′ (x .state .covered)) (F .first-from) (F .first-to) (omega arith)
+          ∙ lt-leb (step .last + 1 - step .first) _ (let e : freeRun (drop (i + 1 - 1) (bitsOf n′ (x .state .covered))) ≡ 0 = rw z (sym (S .run-is) ∙ none) in let f = F .first-to in omega arith) in
+          rw (q, and-false) refl

@@ -57,6 +57,7 @@ pub record Ready (loaded : List ℤ) (direction entries : List ℕ) (grams : Lis
   pub entries-room : t .phrases ≤ length entries
   pub options-of : OptionsOf (bookOf loaded) direction options starts
   pub options-room : getD starts (wordCount direction) 0 ≤ length options
+  pub options-small : length options < 2 ^ 63
   pub starts-room : 33 ≤ length starts
 
 -- the option o is entry k at the position `first`, which is in reach of the state of x, and where `run` positions are free
@@ -93,3 +94,10 @@ pub record Turns (loaded : List ℤ) (direction entries : List ℕ) (grams : Lis
   pub first-to : first ≤ wordCount direction
   pub run-is : run ≡ freeRun (drop (first - 1) (bitsOf (wordCount direction) (x .state .covered)))
   pub near : jumpFrom (x .state .r) first ≤ job .task .limit
+
+-- the state of x, the place j, is to be extended by the options of the position i + 1, where `run` positions are free
+pub record Spot (loaded : List ℤ) (direction : List ℕ) (job : Job) (x : Place) (j i run : ℕ) : Type 0 where
+  pub chosen : Chosen (bookOf loaded) direction (job .width) (x .size) j x
+  pub place-small : j < 2 ^ 63
+  pub inside : i < wordCount direction
+  pub run-is : run ≡ freeRun (drop i (bitsOf (wordCount direction) (x .state .covered)))

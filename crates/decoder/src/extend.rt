@@ -15,7 +15,7 @@ ghost use Rattle.notes.specs.Book.{bookOf};
 ghost use Rattle.book.specs.Entries.{EntriesAt};
 ghost use Rattle.derivation.specs.Prepared.{Prepared};
 ghost use Rattle.store.specs.Ghost.{Chosen, Growing, Grew};
-ghost use Rattle.decoder.specs.Extend.{Grows, nextPlace, CanPlace, Turn, Turns};
+ghost use Rattle.decoder.specs.Extend.{Grows, nextPlace, CanPlace, Turn, Turns, Ready, Spot};
 
 // The place that entry p at `first` leads to from the place j, which holds x.
 fn next_place(
@@ -141,4 +141,54 @@ fn extend_at(
         o += 1;
     }
     Grown::On(c)
+}
+
+// It is extended by the options of the position i + 1, where `run` positions are free: none where that is out of reach, or covered.
+fn extend_from(
+    store: &mut [i64],
+    count: usize,
+    book: &[i32],
+    direction: &[u16],
+    entries: &[usize],
+    grams: &[i32],
+    heads: &[u16],
+    links: &[u16],
+    options: &[u16],
+    starts: &[usize],
+    job: Job,
+    x: Place,
+    j: usize,
+    i: usize,
+    run: usize,
+) -> Grown
+    requires { ⌜ Ready (now book) (now direction) (now entries) (now grams) (now heads) (now links) (now options) (now starts) (job .task) ⌝ }
+    requires { ⌜ Spot (now book) (now direction) job x j i run ⌝ }
+    requires { ⌜ Growing (bookOf (now book)) (now direction) (job .width) (x .size) j (getD (now starts) i 0) (now store) count ⌝ }
+    ensures { λ r. ⌜ Grew (bookOf (now (book .entry))) (now (direction .entry)) (job .width) (x .size) j (getD (now (starts .entry)) (i + 1) 0) (now (store .exit)) r ⌝ }
+{
+    let t = job.task;
+    if run == 0 {
+        return Grown::On(count);
+    }
+    if t.limit < derivation::step::jump(x.state.r as usize, i + 1) {
+        return Grown::On(count);
+    }
+    extend_at(
+        store,
+        count,
+        book,
+        direction,
+        entries,
+        grams,
+        heads,
+        links,
+        options,
+        job,
+        x,
+        j,
+        i + 1,
+        run,
+        starts[i],
+        starts[i + 1],
+    )
 }
