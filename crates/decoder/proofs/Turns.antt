@@ -16,7 +16,7 @@ use Rattle.laws.proofs.Bits.{bits-length}
 use Rattle.laws.proofs.Bounds.{within-mono}
 use Rattle.laws.proofs.Lists.{getD-mem}
 use Rattle.laws.proofs.Tests.{both-of}
-use Rattle.coverage.specs.Runs.{freeRun}
+use Rattle.coverage.specs.Runs.{freeRun, RunsFrom}
 use Rattle.coverage.proofs.Laws.{free-run}
 use Rattle.search_theory.specs.Search.{run}
 use Rattle.notes.specs.Book.{Book, bookOf}
@@ -30,6 +30,7 @@ use Rattle.notes.proofs.Ranges.{loaded-ranged}
 use Rattle.derivation.specs.Model.{PhraseOf}
 use Rattle.derivation.specs.Next.{jumpFrom}
 use Rattle.derivation.specs.declared.Phrase.{Phrase}
+use Rattle.derivation.specs.declared.Task.{Task}
 use Rattle.store.specs.Shows.{noStep}
 use Rattle.store.specs.Store.{Storable, AddedOf, IndexedAfter}
 use Rattle.store.specs.Ghost.{optionAt, Chosen, Growing, Grew, After, NextPlace}
@@ -251,3 +252,26 @@ module _ {loaded : List ℤ} {direction entries : List ℕ} {grams : List ℤ} {
           free-run step (bitsOf n′ (x .state .covered)) (F .first-from) (F .first-to) (omega arith)
           ∙ lt-leb (step .last + 1 - step .first) _ (let e : freeRun (drop (i + 1 - 1) (bitsOf n′ (x .state .covered))) ≡ 0 = rw z (sym (S .run-is) ∙ none) in let f = F .first-to in omega arith) in
           rw (q, and-false) refl
+
+-- a position, with the run that was read for it
+module _ {loaded : List ℤ} {direction entries : List ℕ} {grams : List ℤ} {heads links options starts : List ℕ} {job : Job} {x : Place} {j : ℕ}
+    (R : Ready loaded direction entries grams heads links options starts (job .task)) where
+  pub spot-of : Chosen (bookOf loaded) direction (job .width) (x .size) j x → j < 2 ^ 63
+      → (runs : List ℕ) → RunsFrom runs (job .task .n) (x .state .covered) 0 → (i : ℕ) → i < job .task .n → Spot loaded direction job x j i (getD runs i 0)
+  spot-of A small runs F i h =
+      let e = R .prepared .n-is in
+      record {
+        chosen = A;
+        place-small = small;
+        inside = omega arith;
+        run-is = rw e at (F .run-at i (omega arith) (omega arith));
+      }
+
+-- no option is done before the first position (`begins`), and all of them after the last
+pub all-done : {loaded : List ℤ} {direction entries : List ℕ} {grams : List ℤ} {heads links options starts : List ℕ} {t : Task}
+    → Ready loaded direction entries grams heads links options starts t → (i : ℕ) → i ≤ t .n → t .n ≤ i → length (fittingSteps (bookOf loaded) direction) ≤ getD starts i 0
+all-done {direction} R i a b =
+    let n = R .prepared .n-is in
+    let e : i ≡ wordCount direction = omega arith in
+    let l = R .options-of .ends in
+    rw e (omega arith)

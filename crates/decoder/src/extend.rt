@@ -6,7 +6,7 @@ use store::Added;
 use store::Grown;
 use store::Place;
 ghost use mathlib.Core.Path.{_≡_};
-ghost use Prim.Native.Nat.{ℕ, _+_, _*_, _≤_, _<_};
+ghost use Prim.Native.Nat.{ℕ, _+_, _*_, _^_, _≤_, _<_};
 ghost use lib.ListN.{length, getD};
 ghost use Rattle.notes.specs.Book.{Entry};
 ghost use Rattle.derivation.specs.Model.{Model, PhraseOf, Phrased};
@@ -14,7 +14,7 @@ ghost use Rattle.store.specs.Store.{Indexed, Storable};
 ghost use Rattle.notes.specs.Book.{bookOf};
 ghost use Rattle.book.specs.Entries.{EntriesAt};
 ghost use Rattle.derivation.specs.Prepared.{Prepared};
-ghost use Rattle.store.specs.Ghost.{Chosen, Growing, Grew};
+ghost use Rattle.store.specs.Ghost.{Chosen, Growing, Grew, Levelled};
 ghost use Rattle.decoder.specs.Extend.{Grows, nextPlace, CanPlace, Turn, Turns, Ready, Spot};
 
 // The place that entry p at `first` leads to from the place j, which holds x.
@@ -191,4 +191,56 @@ fn extend_from(
         starts[i],
         starts[i + 1],
     )
+}
+
+// It is extended by every option: those of the first position, then those of the second, and so on.
+pub fn extend_all(
+    store: &mut [i64],
+    count: usize,
+    book: &[i32],
+    direction: &[u16],
+    entries: &[usize],
+    grams: &[i32],
+    heads: &[u16],
+    links: &[u16],
+    options: &[u16],
+    starts: &[usize],
+    job: Job,
+    x: Place,
+    j: usize,
+) -> Grown
+    requires { ⌜ Ready (now book) (now direction) (now entries) (now grams) (now heads) (now links) (now options) (now starts) (job .task) ⌝ }
+    requires { ⌜ Chosen (bookOf (now book)) (now direction) (job .width) (x .size) j x × (j < 2 ^ 63) ⌝ }
+    requires { ⌜ Growing (bookOf (now book)) (now direction) (job .width) (x .size) j 0 (now store) count ⌝ }
+    ensures { λ r. ⌜ Levelled (bookOf (now (book .entry))) (now (direction .entry)) (job .width) (x .size) (j + 1) (now (store .exit)) r ⌝ }
+{
+    let runs = coverage::free_runs(x.state.covered, job.task.n);
+    let run = runs.run;
+    let mut c = count;
+    let mut i = 0;
+    while i < job.task.n {
+        let long = run[i] as usize;
+        let Grown::On(more) = extend_from(
+            store,
+            c,
+            book,
+            direction,
+            entries,
+            grams,
+            heads,
+            links,
+            options,
+            starts,
+            job,
+            x,
+            j,
+            i,
+            long,
+        ) else {
+            return Grown::Overflow;
+        };
+        c = more;
+        i += 1;
+    }
+    Grown::On(c)
 }
