@@ -1,0 +1,5 @@
+pub mod Numbered
+pub mod Answers
+pub mod Replies
+pub mod Walk
+pub mod Reading

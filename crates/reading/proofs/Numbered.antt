@@ -1,0 +1,42 @@
+-- The number of a refusal is not 0, which is the number of none.
+use Prim.Native.Nat.{ℕ, zero, suc, _≤_}
+use native.Mathlib.Omega.{arith}
+use mathlib.Core.Path.{_≡_, refl, sym, ap}
+use Rattle.notes.specs.Questions.{_orelse_, number}
+use Rattle.notes.specs.Reply.{Reply, refused, reply}
+use Rattle.notes.specs.declared.Refusal.{Refusal}
+use Rattle.notes.specs.declared.Refusal.the-variants.{BookText, LineFields, BLine, NumberRange, LineCount, RepeatedTriple, ListTooShort, DirectionText, WordCount, WordRange, Width, StepsOrWordsTooShort, StoreTooSmall, NoDerivation, LastSetEmpty, DoesNotFit, CoveredTwice, JumpTooLong, Uncovered}
+
+pub number-from : (refusal : Refusal) → 1 ≤ number refusal
+number-from BookText = omega arith
+number-from LineFields = omega arith
+number-from BLine = omega arith
+number-from NumberRange = omega arith
+number-from LineCount = omega arith
+number-from RepeatedTriple = omega arith
+number-from ListTooShort = omega arith
+number-from DirectionText = omega arith
+number-from WordCount = omega arith
+number-from WordRange = omega arith
+number-from Width = omega arith
+number-from StepsOrWordsTooShort = omega arith
+number-from StoreTooSmall = omega arith
+number-from NoDerivation = omega arith
+number-from LastSetEmpty = omega arith
+number-from DoesNotFit = omega arith
+number-from CoveredTwice = omega arith
+number-from JumpTooLong = omega arith
+number-from Uncovered = omega arith
+
+-- a question that refuses ends the chain
+pub refused-first : (k m : ℕ) → 1 ≤ k → k orelse m ≡ k
+refused-first zero m h = absurd (omega arith)
+refused-first (suc k) m h = refl
+
+-- and the chain's reply is its refusal
+pub refused-reply : {A : Type 0} (refusal : Refusal) (k : ℕ) (a : A) → k ≡ number refusal → refused (number refusal) ≡ reply k a
+refused-reply {A} refusal k a e = by k (number-from refusal) e
+  where
+    by : (j : ℕ) → 1 ≤ number refusal → j ≡ number refusal → refused (number refusal) ≡ reply j a
+    by zero h q = absurd (omega arith)
+    by (suc j) h q = ap {B = Reply A} refused (sym q)
