@@ -1,5 +1,6 @@
 // The search on plain numbers: the states of the store are extended set by set, and the best of the last set is traced back.
 pub mod extend;
+pub mod levels;
 
 // What is searched: the numbers of the book and the direction, and the beam's width (-1: pruning off).
 pub struct Job {

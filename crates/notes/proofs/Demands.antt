@@ -50,7 +50,7 @@ before-to loaded direction width lent =
     (test-to 12 (leb (wordCount direction) (lent .steps) && leb (8 * wordCount direction) (lent .words)) 12 (omega arith))))
 
 -- a direction that 9 passes has at most 32 words
-direction-to : (direction : List ℕ) → directionRefusal direction ≡ 0 → wordCount direction ≤ 32
+pub direction-to : (direction : List ℕ) → directionRefusal direction ≡ 0 → wordCount direction ≤ 32
 unfolding directionRefusal numbersRefusal wordCount
 direction-to direction e =
     let t = test-passes 8 (within 1 32 (length (map pos direction))) (first-passes (9 unless within 1 32 (length (map pos direction))) _ e) in
