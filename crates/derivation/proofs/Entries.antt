@@ -2,8 +2,8 @@
 use Prim.Native.Nat.{ℕ, _+_, _≤_, _<_}
 use native.Mathlib.Omega.{arith}
 use mathlib.Core.Path.{_≡_, refl, sym, _∙_, ap, subst}
-use mathlib.Core.Bool.{true, _&&_, false≢true}
-use mathlib.Core.List.{List, map}
+use mathlib.Core.Bool.{true, false≢true}
+use mathlib.Core.List.{List}
 use lib.IntN.{ℤ, pos, negsuc}
 use lib.Signed.{leZ}
 use lib.ListN.{length, getD, take, drop, length-drop, length-map, List·getD-map}
@@ -14,7 +14,6 @@ use Rattle.laws.proofs.Linear.{signed}
 use Rattle.notes.specs.Book.{Entry, numberAt, naturalAt, isWord, wordsAt}
 use Rattle.book.specs.Entries.{EntryAt}
 use Rattle.derivation.specs.Model.{WordsAt, PhraseOf}
-use Rattle.derivation.specs.declared.Phrase.{Phrase}
 
 word-pos : (z : ℤ) → isWord z ≡ true → z ≡ pos (natOf z)
 word-pos (pos n) e = refl

@@ -1,9 +1,9 @@
 -- Whether a step fits, word by word.
-use Prim.Native.Nat.{ℕ, suc, _+_, _-_, _≤_, _<_}
+use Prim.Native.Nat.{ℕ, _+_, _-_, _≤_, _<_}
 use native.Mathlib.Omega.{arith}
 use mathlib.Core.Path.{_≡_, refl, sym, _∙_, ap}
 use mathlib.Core.Bool.{Bool, true, false, _&&_}
-use mathlib.Core.List.{List, [], _∷_}
+use mathlib.Core.List.{List}
 use borrow.Author.Tests.{le-leb, lt-leb, eq-eqb, ne-eqb}
 use lib.Dec.{eqb, leb}
 use lib.IntN.{ℤ}
@@ -106,16 +106,30 @@ module _ (source direction : List ℕ) (first last : ℕ) where
 
 module _ (book : Book) (direction : List ℕ) (first last k : ℕ) (from : 1 ≤ k) (to : k ≤ length (book .entries)) (a : 1 ≤ first) (some : 1 ≤ length (entryAt book k .source))
     (end : last ≡ first + length (entryAt book k .source) - 1) where
-  pub fits-here : last ≤ length direction → fits book direction (stepAt book first k) ≡ agree (entryAt book k .source) direction first last 0
+  fits-here : last ≤ length direction → fits book direction (stepAt book first k) ≡ agree (entryAt book k .source) direction first last 0
   unfolding fits isEntry wordsFromTo wordCount
   fits-here h =
       let d : leb (first + length (entryAt book k .source) - 1) (length direction) ≡ true = le-leb (first + length (entryAt book k .source) - 1) (length direction) (omega arith) in
       let b : leb first (first + length (entryAt book k .source) - 1) ≡ true = le-leb first (first + length (entryAt book k .source) - 1) (omega arith) in
       rw (end, le-leb 1 k from, le-leb k (length (book .entries)) to, le-leb 1 first a, b, d)
 
-  pub fits-past : length direction < last → fits book direction (stepAt book first k) ≡ false
+  fits-past : length direction < last → fits book direction (stepAt book first k) ≡ false
   unfolding fits isEntry wordsFromTo wordCount
   fits-past h =
       let d : leb (first + length (entryAt book k .source) - 1) (length direction) ≡ false = lt-leb (first + length (entryAt book k .source) - 1) (length direction) (omega arith) in
       let b : leb first (first + length (entryAt book k .source) - 1) ≡ true = le-leb first (first + length (entryAt book k .source) - 1) (omega arith) in
       rw (le-leb 1 k from, le-leb k (length (book .entries)) to, le-leb 1 first a, b, d)
+
+-- the same of an entry by its places
+module _ (loaded : List ℤ) (book : Book) (direction : List ℕ) (first k : ℕ) (p : Phrase) (stands : PhraseOf loaded (entryAt book k) p) (from : 1 ≤ k) (to : k ≤ length (book .entries)) (a : 1 ≤ first) where
+  end : first + p .long - 1 ≡ first + length (entryAt book k .source) - 1
+  end = let m = stands .source-at .many-are in omega arith
+
+  some : 1 ≤ length (entryAt book k .source)
+  some = let m = stands .source-at .many-are in let o = stands .source-at .some in omega arith
+
+  pub entry-past : length direction < first - 1 + p .long → fits book direction (stepAt book first k) ≡ false
+  entry-past h = fits-past book direction first (first + p .long - 1) k from to a some end (omega arith)
+
+  pub entry-here : first - 1 + p .long ≤ length direction → fits book direction (stepAt book first k) ≡ agree (entryAt book k .source) direction first (first + p .long - 1) 0
+  entry-here h = fits-here book direction first (first + p .long - 1) k from to a some end (omega arith)

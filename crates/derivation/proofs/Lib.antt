@@ -3,3 +3,6 @@ pub mod Next
 pub mod Entries
 pub mod Fits
 pub mod Listing
+pub mod Asking
+pub mod Scoring
+pub mod Long

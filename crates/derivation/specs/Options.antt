@@ -39,3 +39,4 @@ pub record OptionsOf (book : Book) (direction : List ℕ) (options starts : List
   pub each : (i p : ℕ) → i < wordCount direction → getD starts i 0 ≤ p → p < getD starts (i + 1) 0
       → getD (fittingSteps book direction) p noStep ≡ stepAt book (i + 1) (getD options p 0)
   pub entries-in : (p : ℕ) → p < getD starts (wordCount direction) 0 → (1 ≤ getD options p 0) × (getD options p 0 ≤ length (book .entries))
+  pub room : getD starts (wordCount direction) 0 ≤ length options

@@ -1,25 +1,20 @@
 -- The entry's line stands at its place, and each number is read where the line has it.
 use borrow.Author.Needs.{needs}
-use Prim.Native.Nat.{ℕ, _+_, _-_, _≤_, _<_}
+use Prim.Native.Nat.{_+_, _-_}
 use native.Mathlib.Omega.{arith}
 use mathlib.Core.Path.{_≡_, sym, _∙_, subst}
-use lib.IntN.{ℤ, pos}
-use lib.ListN.{length, getD}
+use lib.ListN.{getD}
 use mir.Syntax.{w64}
 use mir.Facts.{toZ-ofZ}
 use Rattle.laws.specs.Integers.{Within}
 use Rattle.laws.proofs.Bounds.{within-fits}
 use Rattle.laws.proofs.Got.{i32}
-use Rattle.notes.specs.Book.{Entry, bookOf, numberAt, naturalAt}
+use Rattle.notes.specs.Book.{bookOf, numberAt, naturalAt}
 use Rattle.notes.specs.Derivation.{noEntry, entryAt}
 use Rattle.book.specs.Entries.{EntryAt}
 use Rattle.derivation.proofs.Entries.{entry-stands}
 use Rattle.derivation.proofs.places.phrase_at.Statement.{statement}
 use Rattle.derivation.proofs.places.phrase_at.Tie as tie
-use Rattle.derivation.proofs.places.phrase_at.Reads as reads
-use Rattle.derivation.proofs.places.phrase_at.Lts as lts
-use Rattle.book.proofs.line.natural_at.Reads as natural-at-reads
-use Rattle.book.proofs.line.number_at.Reads as number-at-reads
 
 entry : (b : tie.Start) → EntryAt (b .args .book .now) (getD (b .args .entries .now) (b .args .k - 1) 0) (getD (bookOf (b .args .book .now) .entries) (b .args .k - 1) noEntry)
 entry b = b .pre .0 .each (b .args .k - 1) (let h = b .pre .1 in omega arith)
