@@ -179,34 +179,34 @@ module _ {loaded : List ℤ} {direction entries : List ℕ} {grams : List ℤ} {
   to-end : to ≤ getD starts n′ 0
   to-end = let h = S .inside in
       let z : i + 1 + (n′ - (i + 1)) ≡ n′ = omega arith in
-      rw z at (climbs (λ k. getD starts k 0) (i + 1) (n′ - (i + 1)) (λ k a b. rw add-one at (R .options-of .rising k (omega arith))))
+      rw z at (climbs (λ k. getD starts k 0) (i + 1) (n′ - (i + 1)) (λ k a b. rw add-one at (R .choices .options-of .rising k (omega arith))))
 
   step-fits : (o : ℕ) → from ≤ o → o < to → fits book′ direction (stepAt book′ (i + 1) (getD options o 0)) ≡ true
   step-fits o a b =
-      let l = R .options-of .ends in
+      let l = R .choices .options-of .ends in
       let e = to-end in
       listed-fits book′ direction _
-      (subst (λ (s : Step). List·Memᴰ s (fittingSteps book′ direction)) (R .options-of .each i o (S .inside) a b) (getD-mem (fittingSteps book′ direction) o noStep (omega arith)))
+      (subst (λ (s : Step). List·Memᴰ s (fittingSteps book′ direction)) (R .choices .options-of .each i o (S .inside) a b) (getD-mem (fittingSteps book′ direction) o noStep (omega arith)))
 
   pub spot-turns : jumpFrom (x .state .r) (i + 1) ≤ job .task .limit
       → Turns loaded direction entries grams heads links options job x j (i + 1) run from to
   spot-turns near =
       let e = to-end in
-      let r = R .options-room in
-      let l = R .options-of .ends in
+      let r = R .choices .options-of .room in
+      let l = R .choices .options-of .ends in
       let m = R .prepared .phrases-are in
       record {
         prepared = R .prepared;
-        entries-at = R .entries-at;
-        entries-room = R .entries-room;
+        entries-at = R .choices .entries-at;
+        entries-room = R .choices .entries-room;
         chosen = S .chosen;
         place-small = S .place-small;
-        rising = R .options-of .rising i (S .inside);
+        rising = R .choices .options-of .rising i (S .inside);
         options-in = omega arith;
         options-room = omega arith;
-        options-small = (let s = R .options-small in omega arith);
-        option-is = λ o a b. R .options-of .each i o (S .inside) a b;
-        entry-in = λ o a b. let q = R .options-of .entries-in o (omega arith) in (q .0, (let z = q .1 in omega arith));
+        options-small = (let s = R .choices .options-small in omega arith);
+        option-is = λ o a b. R .choices .options-of .each i o (S .inside) a b;
+        entry-in = λ o a b. let q = R .choices .options-of .entries-in o (omega arith) in (q .0, (let z = q .1 in omega arith));
         first-from = omega arith;
         first-to = (let h = S .inside in omega arith);
         run-is = (let z : i + 1 - 1 ≡ i = omega arith in rw z (S .run-is));
@@ -218,12 +218,12 @@ module _ {loaded : List ℤ} {direction entries : List ℕ} {grams : List ℤ} {
       → {st : List ℤ} {count : ℕ} → Growing book′ direction (job .width) (x .size) j from st count → Growing book′ direction (job .width) (x .size) j to st count
   spot-skips never {st} {count} G =
       let e = to-end in
-      let l = R .options-of .ends in
-      let r : from ≤ to = R .options-of .rising i (S .inside) in
+      let l = R .choices .options-of .ends in
+      let r : from ≤ to = R .choices .options-of .rising i (S .inside) in
       let z : from + (to - from) ≡ to = omega arith in
       subst (λ (o : ℕ). Growing book′ direction (job .width) (x .size) j o st count) z
       (skip-all book′ direction (job .width) (x .size) j x (S .chosen) from st count (to - from) (omega arith)
-      (λ o a b. ap (mayExtend book′ direction (keyOf n′ (x .state))) (R .options-of .each i o (S .inside) a (omega arith)) ∙ never o a (omega arith)) G)
+      (λ o a b. ap (mayExtend book′ direction (keyOf n′ (x .state))) (R .choices .options-of .each i o (S .inside) a (omega arith)) ∙ never o a (omega arith)) G)
 
   -- the position is out of reach
   pub far-skips : job .task .limit < jumpFrom (x .state .r) (i + 1)
@@ -273,5 +273,5 @@ pub all-done : {loaded : List ℤ} {direction entries : List ℕ} {grams : List 
 all-done {direction} R i a b =
     let n = R .prepared .n-is in
     let e : i ≡ wordCount direction = omega arith in
-    let l = R .options-of .ends in
+    let l = R .choices .options-of .ends in
     rw e (omega arith)

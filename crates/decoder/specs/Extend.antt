@@ -50,15 +50,21 @@ pub record Grows (old new : List ℤ) (count : ℕ) (y : Place) (r : Grown) : Ty
 
 -- ════ the lists of a decode
 
--- they are those of this book and this direction: the language model, the entries' places and the steps that fit
-pub record Ready (loaded : List ℤ) (direction entries : List ℕ) (grams : List ℤ) (heads links options starts : List ℕ) (t : Task) : Type 0 where
-  pub prepared : Prepared loaded direction grams heads links t
+-- the entries' places and the steps that fit are those of this book and this direction
+pub record Choices (loaded : List ℤ) (direction entries options starts : List ℕ) (t : Task) : Type 0 where
+  pub n-is : t .n ≡ wordCount direction
+  pub few : wordCount direction ≤ 32
+  pub phrases-are : t .phrases ≡ length (bookOf loaded .entries)
   pub entries-at : EntriesAt loaded entries (t .phrases)
   pub entries-room : t .phrases ≤ length entries
   pub options-of : OptionsOf (bookOf loaded) direction options starts
-  pub options-room : getD starts (wordCount direction) 0 ≤ length options
   pub options-small : length options < 2 ^ 63
   pub starts-room : 33 ≤ length starts
+
+-- and so is the language model
+pub record Ready (loaded : List ℤ) (direction entries : List ℕ) (grams : List ℤ) (heads links options starts : List ℕ) (t : Task) : Type 0 where
+  pub prepared : Prepared loaded direction grams heads links t
+  pub choices : Choices loaded direction entries options starts t
 
 -- the option o is entry k at the position `first`, which is in reach of the state of x, and where `run` positions are free
 pub record Turn (loaded : List ℤ) (direction entries : List ℕ) (grams : List ℤ) (heads links : List ℕ) (job : Job) (x : Place) (j first run o k : ℕ) : Type 0 where

@@ -29,7 +29,7 @@ free-runs-requires c κs = search needs
 
 -- src/extend.rt:221:5
 loop-holds : tie.Need-loop-holds Inv-loop μ-loop
-loop-holds c = let s = c .before .before .before .before .before .before .before .before in (omega arith, (refl, subst (λ (o : ℕ). Growing (bookOf (s .args .book .now)) (s .args .direction .now) (s .args .job .width) (s .args .x .size) (s .args .j) o (s .args .store .now) (s .args .count)) (sym (s .pre .0 .options-of .begins)) (s .pre .1 .1)))
+loop-holds c = let s = c .before .before .before .before .before .before .before .before in (omega arith, (refl, subst (λ (o : ℕ). Growing (bookOf (s .args .book .now)) (s .args .direction .now) (s .args .job .width) (s .args .x .size) (s .args .j) o (s .args .store .now) (s .args .count)) (sym (s .pre .0 .choices .options-of .begins)) (s .pre .1 .1)))
 
 -- src/extend.rt:222:20
 array-read-long : tie.Need-array-read-long Inv-loop μ-loop

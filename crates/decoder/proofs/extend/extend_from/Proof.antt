@@ -51,7 +51,7 @@ mul-extend-at-2 c = search needs
 
 -- src/extend.rt:192:9
 shared-slice-read-extend-at-2 : tie.Need-shared-slice-read-extend-at-2
-shared-slice-read-extend-at-2 c = let b = c .before .before .before .before .before .before .before .before .before .before .before .before .before .before .before in let r = b .pre .0 .starts-room in let n = b .pre .1 .0 .chosen .shown .fine .few in let i = b .pre .1 .0 .inside in omega arith
+shared-slice-read-extend-at-2 c = let b = c .before .before .before .before .before .before .before .before .before .before .before .before .before .before .before in let r = b .pre .0 .choices .starts-room in let n = b .pre .1 .0 .chosen .shown .fine .few in let i = b .pre .1 .0 .inside in omega arith
 
 -- src/extend.rt:176:5
 extend-at-requires : tie.Need-extend-at-requires
