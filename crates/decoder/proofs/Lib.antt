@@ -1,3 +1,4 @@
+pub mod Answers
 pub mod Placed
 pub mod Turns
 pub mod Visits

@@ -1,0 +1,65 @@
+// The answer: the best state's steps as plain numbers, and their target words.
+use derivation::Phrase;
+use derivation::Task;
+use notes::Step;
+use records::Plain;
+ghost use mathlib.Core.Path.{_≡_};
+ghost use mathlib.Core.List.{map};
+ghost use Prim.Native.Nat.{ℕ, _+_, _*_, _≤_, _<_};
+ghost use lib.ListN.{length, getD, take};
+ghost use Rattle.notes.specs.Book.{Entry, bookOf};
+ghost use Rattle.notes.specs.Reply.{writtenOver};
+ghost use Rattle.notes.specs.Search.{fittingSteps};
+ghost use Rattle.derivation.specs.Model.{PhraseOf, Phrased};
+ghost use Rattle.records.specs.Plain.{stepsOf};
+ghost use Rattle.store.specs.Ghost.{optionAt};
+ghost use Rattle.decoder.specs.Extend.{Choices};
+
+// The position, counted from 0, at which the option o stands: each position's options begin where those before it end.
+fn position_of(starts: &[usize], n: usize, o: usize) -> usize
+    requires { ⌜ (n < length (now starts)) × ((getD (now starts) 0 0 ≤ o) × (o < getD (now starts) n 0)) ⌝ }
+    ensures { λ r. ⌜ (r < n) × ((getD (now (starts .entry)) r 0 ≤ o) × (o < getD (now (starts .entry)) (r + 1) 0)) ⌝ }
+{
+    let mut i = 0;
+    while starts[i + 1] <= o {
+        i += 1;
+    }
+    i
+}
+
+// The step that the option o is. (`direction` is for the contract.)
+fn step_of(
+    book: &[i32],
+    direction: &[u16],
+    entries: &[usize],
+    options: &[u16],
+    starts: &[usize],
+    t: Task,
+    o: usize,
+) -> Step
+    requires { ⌜ Choices (now book) (now direction) (now entries) (now options) (now starts) t ⌝ }
+    requires { ⌜ o < length (fittingSteps (bookOf (now book)) (now direction)) ⌝ }
+    ensures { λ r. ⌜ r ≡ optionAt (bookOf (now (book .entry))) (now (direction .entry)) o ⌝ }
+{
+    let first = position_of(starts, t.n, o) + 1;
+    let entry = options[o];
+    let p = derivation::places::phrase_at(book, entries, t.phrases, entry as usize);
+    Step {
+        first: first as u16,
+        last: (first + p.long - 1) as u16,
+        entry,
+    }
+}
+
+// The entry's target words at the beginning of a list.
+fn copy_words(book: &[i32], p: Phrase, words: &mut [u16])
+    requires { ⌜ Phrased (now book) p ⌝ }
+    requires { ⌜ p .count ≤ length (now words) ⌝ }
+    ensures { λ _. ⌜ ((e : Entry) → PhraseOf (now (book .entry)) e p → now (words .exit) ≡ writtenOver (e .target) (now (words .entry))) ⌝ }
+{
+    let mut j = 0;
+    while j < p.count {
+        words[j] = derivation::model::word_at(book, p.target + j);
+        j += 1;
+    }
+}
