@@ -3,15 +3,24 @@ use Prim.Native.Nat.{ℕ, zero, suc, _+_, _-_, _*_, _≤_, _<_}
 use native.Mathlib.Omega.{arith}
 use native.Mathlib.Decide.{ℕ-discrete}
 use mathlib.Core.Path.{_≡_, refl, sym, _∙_, ap, subst}
-use mathlib.Core.List.{List, [], _∷_, _++_, append-assoc}
+use mathlib.Core.Bool.{Bool, true, false}
+use mathlib.Core.List.{List, [], _∷_, _++_, map, map-append, append-assoc, append-nil}
+use borrow.Author.Tests.{lt-leb}
+use lib.Dec.{leb}
 use lib.IntN.{ℤ}
-use lib.ListN.{length, getD, take, drop, set, drop-of-length-le}
+use lib.ListN.{length, getD, take, drop, set, length-append, length-drop, drop-of-length-le}
+use lib.Seq.{take-append-seam, drop-append-seam, drop-drop}
+use native.Mathlib.Numerals.{add-one}
 use Rattle.laws.proofs.Fill.{Filled, fill-start, fill-put, fill-count, fill-end}
-use Rattle.laws.proofs.Lists.{drop-next}
-use Rattle.notes.specs.Book.{bookOf}
-use Rattle.notes.specs.Derivation.{entryAt}
+use Rattle.laws.specs.Lists.{concat}
+use Rattle.laws.proofs.Lists.{drop-next, take-next, part-rest, concat-++}
+use Rattle.notes.specs.Book.{Book, bookOf}
+use Rattle.notes.specs.Derivation.{entryAt, targetWords}
 use Rattle.notes.specs.Reply.{writtenOver}
 use Rattle.notes.specs.Search.{stepAt, fittingSteps}
+use Rattle.notes.specs.declared.Step.{Step}
+use Rattle.records.specs.Plain.{stepIn, stepsTo, stepsOf, unlessFull, withStep, Added}
+use Rattle.records.specs.declared.Plain.{Plain}
 use Rattle.derivation.specs.Model.{WordsAt, wordIn, PhraseOf}
 use Rattle.derivation.specs.declared.Phrase.{Phrase}
 use Rattle.derivation.specs.declared.Task.{Task}
@@ -71,3 +80,70 @@ module _ {loaded : List ℤ} {from many : ℕ} {row : List ℕ} (w : WordsAt loa
       let e : drop j row ≡ [] = drop-of-length-le row {i = j} (omega arith) in
       let g : Filled old out j [] row = subst (λ (rest : List ℕ). Filled old out j rest row) e f in
       fill-end g ∙ ap (λ (k : ℕ). row ++ drop k old) (fill-count g)
+
+-- ════ the steps of a row of options
+
+pub steps-more : (f : ℕ → Step) (way : List ℕ) {p r : Plain} {step : Step} {k : ℕ} → k < length way → k < 33 → p .count ≡ k → stepsOf p ≡ map f (take k way)
+    → step ≡ f (getD way k 0) → Added p step r → (r .count ≡ k + 1) × (stepsOf r ≡ map f (take (k + 1) way))
+steps-more f way {p} {r} {step} {k} h few e s z a =
+    let full : leb 33 (p .count) ≡ false = lt-leb 33 (p .count) (omega arith) in
+    let c : withStep p step .count ≡ p .count + 1 = ap (λ (b : Bool). unlessFull b p step .count) full in (
+      ap (λ (q : Plain). q .count) (a .is) ∙ c ∙ ap (λ (m : ℕ). m + 1) e,
+      a .steps (omega arith) ∙ ap (λ (ss : List Step). ss ++ (step ∷ [])) s ∙ ap (λ (x : Step). map f (take k way) ++ (x ∷ [])) z
+          ∙ sym (map-append f (take k way) (getD way k 0 ∷ [])) ∙ ap (map f) (sym (take-next way k 0 h)),
+    )
+
+-- ════ the words of one step after another
+
+pub words-more : (book : Book) (steps : List Step) (step : Step) → targetWords book (steps ++ (step ∷ [])) ≡ targetWords book steps ++ entryAt book (step .entry) .target
+unfolding targetWords
+words-more book steps step =
+    ap concat (map-append (λ (s : Step). entryAt book (s .entry) .target) steps (step ∷ []))
+    ∙ concat-++ (map (λ (s : Step). entryAt book (s .entry) .target) steps) (entryAt book (step .entry) .target ∷ [])
+    ∙ ap (λ (ws : List ℕ). targetWords book steps ++ ws) (append-nil (entryAt book (step .entry) .target))
+
+-- what was written stays, and the rest of the list is written from its front
+module _ {A : Type 0} (xs ys old : List A) where
+  abbrev so-far : List A
+  so-far = writtenOver xs old
+
+  abbrev after : List A
+  after = drop (length xs) so-far
+
+  pub over-more : {words part : List A} {count : ℕ} → words ≡ so-far → count ≡ length xs → part ≡ writtenOver ys (take (length words - count) (drop count words))
+      → take count words ++ (part ++ drop (length words - count) (drop count words)) ≡ writtenOver (xs ++ ys) old
+  over-more {words} {part} {count} w c e =
+      let rest : drop (length xs) so-far ≡ drop (length xs) old = drop-append-seam xs (drop (length xs) old) in
+      let all : take (length so-far - length xs) after ≡ after = part-rest so-far (length xs) in
+      let none : drop (length so-far - length xs) after ≡ [] = drop-of-length-le after {i = length so-far - length xs} (let l = length-drop (length xs) so-far in omega arith) in
+      let p : part ≡ ys ++ drop (length ys) (drop (length xs) old) =
+      e ∙ ap (λ (ws : List A). writtenOver ys (take (length ws - count) (drop count ws))) w ∙ ap (λ (k : ℕ). writtenOver ys (take (length so-far - k) (drop k so-far))) c
+      ∙ ap (writtenOver ys) (all ∙ rest) in
+      ap (λ (ws : List A). take count ws ++ (part ++ drop (length ws - count) (drop count ws))) w
+      ∙ ap (λ (k : ℕ). take k so-far ++ (part ++ drop (length so-far - k) (drop k so-far))) c
+      ∙ ap (λ (ws : List A). ws ++ (part ++ drop (length so-far - length xs) after)) (take-append-seam xs (drop (length xs) old))
+      ∙ ap (λ (ws : List A). xs ++ (part ++ ws)) none ∙ ap (λ (ws : List A). xs ++ ws) (append-nil part) ∙ ap (λ (ws : List A). xs ++ ws) p
+      ∙ ap (λ (ws : List A). xs ++ (ys ++ ws)) (drop-drop (length ys) (length xs) old)
+      ∙ ap (λ (k : ℕ). xs ++ (ys ++ drop k old)) (sym (length-append xs ys)) ∙ sym (append-assoc xs ys (drop (length (xs ++ ys)) old))
+
+pub over-long : {A : Type 0} (xs old : List A) → length xs ≤ length old → length (writtenOver xs old) ≡ length old
+over-long xs old h = let a = length-append xs (drop (length xs) old) in let d = length-drop (length xs) old in omega arith
+
+-- ---- one step's words more
+
+module _ (book : Book) (plain : Plain) (k : ℕ) (old : List ℕ) where
+  abbrev said : List ℕ
+  said = targetWords book (stepsTo plain k)
+
+  abbrev row : List ℕ
+  row = entryAt book (stepIn plain k .entry) .target
+
+  next-words : targetWords book (stepsTo plain (k + 1)) ≡ said ++ row
+  next-words = rw add-one (words-more book (stepsTo plain k) (stepIn plain k))
+
+  pub write-count : {count many : ℕ} → count ≡ length said → many ≡ length row → count + many ≡ length (targetWords book (stepsTo plain (k + 1)))
+  write-count c m = let a = length-append said row in let e : length (targetWords book (stepsTo plain (k + 1))) ≡ length (said ++ row) = ap length next-words in omega arith
+
+  pub write-more : {words part : List ℕ} {count : ℕ} → words ≡ writtenOver said old → count ≡ length said → part ≡ writtenOver row (take (length words - count) (drop count words))
+      → take count words ++ (part ++ drop (length words - count) (drop count words)) ≡ writtenOver (targetWords book (stepsTo plain (k + 1))) old
+  write-more w c e = over-more said row old w c e ∙ ap (λ (ws : List ℕ). writtenOver ws old) (sym next-words)

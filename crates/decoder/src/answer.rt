@@ -11,7 +11,9 @@ ghost use Rattle.notes.specs.Book.{Entry, bookOf};
 ghost use Rattle.notes.specs.Reply.{writtenOver};
 ghost use Rattle.notes.specs.Search.{fittingSteps};
 ghost use Rattle.derivation.specs.Model.{PhraseOf, Phrased};
-ghost use Rattle.records.specs.Plain.{stepsOf};
+ghost use Rattle.notes.specs.Derivation.{targetWords};
+ghost use Rattle.book.specs.Entries.{EntriesAt};
+ghost use Rattle.records.specs.Plain.{stepIn, stepsOf};
 ghost use Rattle.store.specs.Ghost.{optionAt};
 ghost use Rattle.decoder.specs.Extend.{Choices};
 
@@ -62,4 +64,59 @@ fn copy_words(book: &[i32], p: Phrase, words: &mut [u16])
         words[j] = derivation::model::word_at(book, p.target + j);
         j += 1;
     }
+}
+
+// The steps that the first d options of a row are, as plain numbers.
+fn steps_of(
+    book: &[i32],
+    direction: &[u16],
+    entries: &[usize],
+    options: &[u16],
+    starts: &[usize],
+    t: Task,
+    way: &[usize],
+    d: usize,
+) -> Plain
+    requires { ⌜ Choices (now book) (now direction) (now entries) (now options) (now starts) t ⌝ }
+    requires { ⌜ (d ≤ 32) × (d ≤ length (now way)) ⌝ }
+    requires { ⌜ ((k : ℕ) → k < d → getD (now way) k 0 < length (fittingSteps (bookOf (now book)) (now direction))) ⌝ }
+    ensures { λ r. ⌜ (r .count ≡ d) × (stepsOf r ≡ map (optionAt (bookOf (now (book .entry))) (now (direction .entry))) (take d (now (way .entry)))) ⌝ }
+{
+    let mut plain = records::empty();
+    let mut k = 0;
+    while k < d {
+        plain = records::with_step(
+            plain,
+            step_of(book, direction, entries, options, starts, t, way[k]),
+        );
+        k += 1;
+    }
+    plain
+}
+
+// Each step's target words follow those of the step before; how many there are.
+// Document 01's form: the rest of the word list, from the current count, is lent on to the copier of one entry's words.
+fn write_words(
+    book: &[i32],
+    entries: &[usize],
+    phrases: usize,
+    plain: Plain,
+    words: &mut [u16],
+) -> usize
+    requires { ⌜ EntriesAt (now book) (now entries) phrases × (phrases ≤ length (now entries)) ⌝ }
+    requires { ⌜ (plain .count ≤ 32) × (8 * plain .count ≤ length (now words)) ⌝ }
+    requires { ⌜ ((k : ℕ) → k < plain .count → (1 ≤ stepIn plain k .entry) × (stepIn plain k .entry ≤ phrases)) ⌝ }
+    ensures { λ r. ⌜ r ≡ length (targetWords (bookOf (now (book .entry))) (stepsOf plain)) ⌝ }
+    ensures { λ r. ⌜ now (words .exit) ≡ writtenOver (targetWords (bookOf (now (book .entry))) (stepsOf plain)) (now (words .entry)) ⌝ }
+{
+    let mut count = 0;
+    let mut k = 0;
+    while k < plain.count {
+        let step = records::step_in(plain, k);
+        let p = derivation::places::phrase_at(book, entries, phrases, step.entry as usize);
+        copy_words(book, p, &mut words[count..]);
+        count += p.count;
+        k += 1;
+    }
+    count
 }
