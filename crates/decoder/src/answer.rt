@@ -1,6 +1,9 @@
 // The answer: the best state's steps as plain numbers, and their target words.
+use crate::Core;
 use derivation::Phrase;
 use derivation::Task;
+use notes::Answer;
+use notes::Decoded;
 use notes::Step;
 use records::Plain;
 ghost use mathlib.Core.Path.{_≡_};
@@ -15,6 +18,9 @@ ghost use Rattle.notes.specs.Derivation.{targetWords};
 ghost use Rattle.book.specs.Entries.{EntriesAt};
 ghost use Rattle.records.specs.Plain.{stepIn, stepsOf};
 ghost use Rattle.store.specs.Ghost.{optionAt};
+ghost use Rattle.notes.specs.Direction.{wordCount};
+ghost use Rattle.notes.specs.State.{Hyp};
+ghost use Rattle.decoder.specs.Core.{Ends, Ended, Told};
 ghost use Rattle.decoder.specs.Extend.{Choices};
 
 // The position, counted from 0, at which the option o stands: each position's options begin where those before it end.
@@ -119,4 +125,38 @@ fn write_words(
         k += 1;
     }
     count
+}
+
+// The answer from the place k of the store, which holds the best state: its steps, their words and its score.
+pub fn trace(
+    store: &[i64],
+    k: usize,
+    states: usize,
+    book: &[i32],
+    direction: &[u16],
+    entries: &[usize],
+    options: &[u16],
+    starts: &[usize],
+    t: Task,
+    words: &mut [u16],
+) -> Core
+    requires { ⌜ Choices (now book) (now direction) (now entries) (now options) (now starts) t ⌝ }
+    requires { ⌜ Ended (bookOf (now book)) (now direction) (now store) k ⌝ }
+    requires { ⌜ 8 * wordCount (now direction) ≤ length (now words) ⌝ }
+    ensures { λ r. ⌜ ((q : Hyp) → Ends (bookOf (now (book .entry))) (now (direction .entry)) (now (store .entry)) k q → Told (bookOf (now (book .entry))) q states (now (words .entry)) (now (words .exit)) r) ⌝ }
+{
+    let mut way = [0usize; 32];
+    let d = store::paths::path(store, k, &mut way);
+    let plain = steps_of(book, direction, entries, options, starts, t, &way, d);
+    let many = write_words(book, entries, t.phrases, plain, words);
+    let x = store::places::place_at(store, k);
+    Core {
+        plain,
+        reply: Decoded::Done(Answer {
+            score: x.state.score,
+            steps: d,
+            words: many,
+            states,
+        }),
+    }
 }

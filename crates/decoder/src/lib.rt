@@ -1,4 +1,7 @@
 // The search on plain numbers: the states of the store are extended set by set, and the best of the last set is traced back.
+use notes::Decoded;
+use records::Plain;
+
 pub mod answer;
 pub mod extend;
 pub mod levels;
@@ -7,4 +10,10 @@ pub mod levels;
 pub struct Job {
     pub task: derivation::Task,
     pub width: i64,
+}
+
+// What a decode answers on plain numbers: the steps to write, none on a refusal, and the reply.
+pub struct Core {
+    pub plain: Plain,
+    pub reply: Decoded,
 }
