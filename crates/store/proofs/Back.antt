@@ -103,19 +103,13 @@ module _ (book : Book) (direction : List ℕ) (width : ℤ) where
       }
 
   -- a derivation has at most as many steps as words
-  pub start-leads : {i : ℕ} {st : List ℤ} {count : ℕ} → Starting book direction width i st count → wordCount direction ≤ 32 → (k : ℕ) → k < count → Leads st k 32
+  pub start-short : {i : ℕ} {st : List ℤ} {count : ℕ} → Starting book direction width i st count → (k : ℕ) → k < count
+      → length (getD (upto (search book direction width) i) k nobody .steps) ≤ wordCount direction
   unfolding first start
-  start-leads {i} {st} B few k h =
+  start-short {i} {st} B k h =
       let hk : k < length (upto (search book direction width) i) = omega (arith, B .long) in
       let g = upto-legal (search book direction width) i (getD (upto (search book direction width) i) k nobody) (getD-mem (upto (search book direction width) i) k nobody hk) in
       let w = B .held .each k hk in
       let a = longer (search book direction width) (steady book direction width) (getD (upto (search book direction width) i) k nobody .steps) (first (search book direction width)) (legal-first (search book direction width)) (g .allowed) in
       let b : wordsCovered (getD (upto (search book direction width) i) k nobody .key) ≤ wordCount direction = subst (λ (z : ℕ). z ≤ wordCount direction) (ap wordsCovered (w .key-is)) (size-small (wordCount direction) (placeAt st k .state)) in
-      record {
-        step = optionAt book direction;
-        options = length (fittingSteps book direction);
-        list = upto (search book direction width) i;
-        chains = start-chains B;
-        inside = hk;
-        short = omega (arith, a, ap wordsCovered (g .key-is));
-      }
+      omega (arith, a, ap wordsCovered (g .key-is))
