@@ -1,4 +1,5 @@
 pub mod Answers
+pub mod Deciding
 pub mod Placed
 pub mod Turns
 pub mod Visits

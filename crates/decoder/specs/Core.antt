@@ -1,17 +1,21 @@
 -- What a decode answers on plain numbers.
 use Prim.Native.Nat.{ℕ, _+_, _≤_, _<_}
 use mathlib.Core.Path.{_≡_}
+use mathlib.Core.Bool.{cond}
 use mathlib.Core.List.{List}
+use mathlib.Core.Option.{Option, none, some}
 use lib.IntN.{ℤ}
 use lib.ListN.{length, getD}
 use Rattle.notes.specs.Book.{Book}
 use Rattle.notes.specs.Derivation.{targetWords}
 use Rattle.notes.specs.Direction.{wordCount}
 use Rattle.notes.specs.Reply.{writtenOver}
-use Rattle.notes.specs.Search.{fittingSteps}
+use Rattle.notes.specs.Search.{fittingSteps, isOff}
 use Rattle.notes.specs.State.{Hyp}
-use Rattle.notes.specs.declared.Decoded.the-variants.{Done}
-use Rattle.records.specs.Plain.{stepsOf}
+use Rattle.notes.specs.declared.Decoded.the-variants.{Done, Refused}
+use Rattle.notes.specs.declared.Refusal.{Refusal}
+use Rattle.notes.specs.declared.Refusal.the-variants.{NoDerivation, LastSetEmpty}
+use Rattle.records.specs.Plain.{noSteps, stepsOf}
 use Rattle.store.specs.Back.{Chains}
 use Rattle.store.specs.Ghost.{optionAt}
 use Rattle.store.specs.Shows.{nobody, Shows}
@@ -38,3 +42,16 @@ pub record Told (book : Book) (q : Hyp) (states : ℕ) (words₀ words₁ : List
   pub count-is : r .plain .count ≡ length (q .steps)
   pub words-after : words₁ ≡ writtenOver (targetWords book (q .steps)) words₀
   pub reply-is : r .reply ≡ Done (record { score = q .score; steps = length (q .steps); words = length (targetWords book (q .steps)); states = states })
+
+-- a refusal: "the steps and words are as before"
+abbrev pub refusedBy : Refusal → Core
+refusedBy refusal = record { plain = noSteps; reply = Refused refusal }
+
+-- "With pruning off, is there a valid derivation? No: 14." "With a width, is set n not empty? No: 15."
+abbrev pub noAnswer : ℤ → Refusal
+noAnswer width = cond (isOff width) NoDerivation LastSetEmpty
+
+-- what is answered once the search is over: of its best state, or that there is none
+abbrev pub Concluded : Option Hyp → Book → ℤ → ℕ → List ℕ → List ℕ → Core → Type 0
+Concluded none book width states words₀ words₁ r = (r ≡ refusedBy (noAnswer width)) × (words₁ ≡ words₀)
+Concluded (some q) book width states words₀ words₁ r = Told book q states words₀ words₁ r

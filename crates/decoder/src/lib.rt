@@ -3,6 +3,7 @@ use notes::Decoded;
 use records::Plain;
 
 pub mod answer;
+pub mod decode;
 pub mod extend;
 pub mod levels;
 

@@ -1,0 +1,58 @@
+-- The best state of the store is the answer of the search.
+use Prim.Native.Nat.{ℕ, _*_, _≤_, _<_}
+use native.Mathlib.Omega.{arith}
+use mathlib.Core.Path.{_≡_, refl, sym, _∙_, ap, subst}
+use mathlib.Core.List.{List}
+use mathlib.Core.Option.{Option, none, some}
+use lib.IntN.{ℤ}
+use lib.ListN.{length, getD}
+use Rattle.search_theory.specs.Search.{run, upto}
+use Rattle.search_theory.specs.Loops.{pick}
+use Rattle.notes.specs.Book.{Book}
+use Rattle.notes.specs.Direction.{wordCount}
+use Rattle.notes.specs.State.{Hyp, wordsCovered, isBetter}
+use Rattle.notes.specs.Search.{search, answer, entered}
+use Rattle.store.specs.Answer.{Below, noClose, picked}
+use Rattle.store.specs.Ghost.{Starting}
+use Rattle.store.specs.Shows.{nobody, Lists}
+use Rattle.store.specs.declared.Found.{Found}
+use Rattle.store.specs.declared.Found.the-variants.{At, Nothing}
+use Rattle.store.proofs.Back.{start-chains, start-short}
+use Rattle.store.proofs.Ghost.{best-read, search-ends}
+use Rattle.decoder.specs.declared.Core.{Core}
+use Rattle.decoder.specs.Core.{Ends, Told, Concluded}
+
+module _ (book : Book) (direction : List ℕ) (width : ℤ) {st : List ℤ} {count : ℕ} (B : Starting book direction width (wordCount direction) st count) where
+  -- the place k holds a state of the search
+  pub last-ends : (k : ℕ) → k < count → Ends book direction st k (getD (entered book direction width) k nobody)
+  unfolding entered run
+  last-ends k h =
+      record {
+        list = upto (search book direction width) (wordCount direction);
+        chains = start-chains book direction width B;
+        inside = (let l = B .long in omega arith);
+        is = refl;
+        shown = B .held .each k (let l = B .long in omega arith);
+        short = start-short book direction width B k h;
+      }
+
+  pub entered-count : count ≡ length (entered book direction width)
+  unfolding entered
+  entered-count = sym (search-ends book direction width B .0)
+
+  pub told-all : {q : Hyp} {words₀ words₁ : List ℕ} {r : Core} → Told book q count words₀ words₁ r → Told book q (length (entered book direction width)) words₀ words₁ r
+  told-all {q} {words₀} {words₁} {r} T = subst (λ (m : ℕ). Told book q m words₀ words₁ r) entered-count T
+
+  -- what was found is the answer
+  pub found-is : {n : ℕ} → n ≡ wordCount direction → (result : Found)
+      → ((l : List Hyp) → Lists n st count l → pick wordsCovered n noClose isBetter none l ≡ picked l result) → {r : Found} → result ≡ r
+      → answer book direction width ≡ picked (entered book direction width) r
+  unfolding answer entered
+  found-is e result f z =
+      best-read book direction width B result (subst (λ (m : ℕ). (l : List Hyp) → Lists m st count l → pick wordsCovered m noClose isBetter none l ≡ picked l result) e f)
+      ∙ ap (picked (run (search book direction width))) z
+
+  pub concluded-by : {o : Option Hyp} → answer book direction width ≡ o → (words₀ words₁ : List ℕ) (r : Core)
+      → Concluded o book width (length (entered book direction width)) words₀ words₁ r
+      → Concluded (answer book direction width) book width (length (entered book direction width)) words₀ words₁ r
+  concluded-by e words₀ words₁ r C = subst (λ (o : Option Hyp). Concluded o book width (length (entered book direction width)) words₀ words₁ r) (sym e) C

@@ -1,0 +1,83 @@
+// Decoding on plain numbers: questions 11 to 15, the search between them, and the answer.
+use crate::Core;
+use crate::Job;
+use crate::answer;
+use crate::levels;
+use derivation::options;
+use notes::Decoded;
+use notes::Refusal;
+use store::Found;
+use store::Grown;
+ghost use mathlib.Core.Path.{_≡_};
+ghost use Prim.Native.Nat.{ℕ, _+_, _*_, _≤_, _<_};
+ghost use lib.IntN.{pos};
+ghost use lib.ListN.{length, replicate};
+ghost use Rattle.notes.specs.Book.{bookOf};
+ghost use Rattle.notes.specs.Direction.{wordCount};
+ghost use Rattle.notes.specs.Search.{answer, entered};
+ghost use Rattle.store.specs.Ghost.{Starting};
+ghost use Rattle.decoder.specs.Core.{refusedBy, noAnswer, Concluded};
+ghost use Rattle.decoder.specs.Extend.{Choices};
+
+// A refusal: no steps are written.
+fn refused(refusal: Refusal) -> Core
+    ensures { λ r. ⌜ r ≡ refusedBy refusal ⌝ }
+{
+    Core {
+        plain: records::empty(),
+        reply: Decoded::Refused(refusal),
+    }
+}
+
+// The refusal where no state covers every word: 14 with pruning off, 15 with a width.
+fn no_answer(width: i64) -> Refusal
+    ensures { λ r. ⌜ r ≡ noAnswer width ⌝ }
+{
+    if width == -1 {
+        Refusal::NoDerivation
+    } else {
+        Refusal::LastSetEmpty
+    }
+}
+
+// The search is over: the best state of the last set is the answer, or there is none. The store is cleared.
+fn conclude(
+    store: &mut [i64],
+    count: usize,
+    book: &[i32],
+    direction: &[u16],
+    entries: &[usize],
+    options: &[u16],
+    starts: &[usize],
+    job: Job,
+    words: &mut [u16],
+) -> Core
+    requires { ⌜ Choices (now book) (now direction) (now entries) (now options) (now starts) (job .task) ⌝ }
+    requires { ⌜ Starting (bookOf (now book)) (now direction) (job .width) (wordCount (now direction)) (now store) count ⌝ }
+    requires { ⌜ 8 * wordCount (now direction) ≤ length (now words) ⌝ }
+    ensures { λ r. ⌜ Concluded (answer (bookOf (now (book .entry))) (now (direction .entry)) (job .width)) (bookOf (now (book .entry))) (job .width) (length (entered (bookOf (now (book .entry))) (now (direction .entry)) (job .width))) (now (words .entry)) (now (words .exit)) r ⌝ }
+    ensures { λ r. ⌜ now (store .exit) ≡ replicate (length (now (store .entry))) (pos 0) ⌝ }
+{
+    match store::reading::pick_best(store, count, job.task.n) {
+        Found::Nothing => {
+            store::clearing::clear_used(store, count);
+            refused(no_answer(job.width))
+        }
+        Found::At(k) => {
+            let core = answer::trace(
+                store,
+                k,
+                count,
+                book,
+                direction,
+                entries,
+                options,
+                starts,
+                job.task,
+                words,
+            );
+            store::clearing::clear_used(store, count);
+            core
+        }
+    }
+}
