@@ -1,9 +1,11 @@
 -- The best state of the store is the answer of the search.
-use Prim.Native.Nat.{ℕ, _*_, _≤_, _<_}
+use Prim.Native.Nat.{ℕ, _*_, _/_, _≤_, _<_}
 use native.Mathlib.Omega.{arith}
 use mathlib.Core.Path.{_≡_, refl, sym, _∙_, ap, subst}
+use mathlib.Core.Bool.{Bool, true, false}
 use mathlib.Core.List.{List}
 use mathlib.Core.Option.{Option, none, some}
+use borrow.Author.Tests.{le-leb, lt-leb}
 use lib.IntN.{ℤ}
 use lib.ListN.{length, getD}
 use Rattle.search_theory.specs.Search.{run, upto}
@@ -12,6 +14,7 @@ use Rattle.notes.specs.Book.{Book}
 use Rattle.notes.specs.Direction.{wordCount}
 use Rattle.notes.specs.State.{Hyp, wordsCovered, isBetter}
 use Rattle.notes.specs.Search.{search, answer, entered}
+use Rattle.notes.specs.declared.Refusal.the-variants.{StoreTooSmall}
 use Rattle.store.specs.Answer.{Below, noClose, picked}
 use Rattle.store.specs.Ghost.{Starting}
 use Rattle.store.specs.Shows.{nobody, Lists}
@@ -20,7 +23,7 @@ use Rattle.store.specs.declared.Found.the-variants.{At, Nothing}
 use Rattle.store.proofs.Back.{start-chains, start-short}
 use Rattle.store.proofs.Ghost.{best-read, search-ends}
 use Rattle.decoder.specs.declared.Core.{Core}
-use Rattle.decoder.specs.Core.{Ends, Told, Concluded}
+use Rattle.decoder.specs.Core.{Ends, Told, refusedBy, Concluded, SearchedIf, Searched}
 
 module _ (book : Book) (direction : List ℕ) (width : ℤ) {st : List ℤ} {count : ℕ} (B : Starting book direction width (wordCount direction) st count) where
   -- the place k holds a state of the search
@@ -56,3 +59,23 @@ module _ (book : Book) (direction : List ℕ) (width : ℤ) {st : List ℤ} {cou
       → Concluded o book width (length (entered book direction width)) words₀ words₁ r
       → Concluded (answer book direction width) book width (length (entered book direction width)) words₀ words₁ r
   concluded-by e words₀ words₁ r C = subst (λ (o : Option Hyp). Concluded o book width (length (entered book direction width)) words₀ words₁ r) (sym e) C
+
+-- ════ question 13
+
+module _ (book : Book) (direction : List ℕ) (width : ℤ) (places : ℕ) where
+  pub too-small : places < length (entered book direction width) → (words₀ words₁ : List ℕ) (r : Core) → (r ≡ refusedBy StoreTooSmall) × (words₁ ≡ words₀)
+      → Searched book direction width places words₀ words₁ r
+  too-small h words₀ words₁ r u = subst (λ (b : Bool). SearchedIf b book direction width words₀ words₁ r) (sym (lt-leb (length (entered book direction width)) places h)) u
+
+  pub large-enough : length (entered book direction width) ≤ places → (words₀ words₁ : List ℕ) (r : Core)
+      → Concluded (answer book direction width) book width (length (entered book direction width)) words₀ words₁ r → Searched book direction width places words₀ words₁ r
+  large-enough h words₀ words₁ r u = subst (λ (b : Bool). SearchedIf b book direction width words₀ words₁ r) (sym (le-leb (length (entered book direction width)) places h)) u
+
+-- the store's places, from the search's end and from its overflow
+pub places-fit : (book : Book) (direction : List ℕ) (width : ℤ) {st : List ℤ} {count : ℕ} → Starting book direction width (wordCount direction) st count → length (entered book direction width) ≤ length st / 8
+unfolding entered
+places-fit book direction width B = search-ends book direction width B .1
+
+pub places-lack : (book : Book) (direction : List ℕ) (width : ℤ) {places : ℕ} → places < length (run (search book direction width)) → places < length (entered book direction width)
+unfolding entered
+places-lack book direction width h = h

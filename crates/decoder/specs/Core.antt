@@ -1,20 +1,21 @@
 -- What a decode answers on plain numbers.
 use Prim.Native.Nat.{ℕ, _+_, _≤_, _<_}
 use mathlib.Core.Path.{_≡_}
-use mathlib.Core.Bool.{cond}
+use mathlib.Core.Bool.{Bool, true, false, cond}
 use mathlib.Core.List.{List}
 use mathlib.Core.Option.{Option, none, some}
+use lib.Dec.{leb}
 use lib.IntN.{ℤ}
 use lib.ListN.{length, getD}
 use Rattle.notes.specs.Book.{Book}
 use Rattle.notes.specs.Derivation.{targetWords}
 use Rattle.notes.specs.Direction.{wordCount}
 use Rattle.notes.specs.Reply.{writtenOver}
-use Rattle.notes.specs.Search.{fittingSteps, isOff}
+use Rattle.notes.specs.Search.{fittingSteps, isOff, answer, entered}
 use Rattle.notes.specs.State.{Hyp}
 use Rattle.notes.specs.declared.Decoded.the-variants.{Done, Refused}
 use Rattle.notes.specs.declared.Refusal.{Refusal}
-use Rattle.notes.specs.declared.Refusal.the-variants.{NoDerivation, LastSetEmpty}
+use Rattle.notes.specs.declared.Refusal.the-variants.{StoreTooSmall, NoDerivation, LastSetEmpty}
 use Rattle.records.specs.Plain.{noSteps, stepsOf}
 use Rattle.store.specs.Back.{Chains}
 use Rattle.store.specs.Ghost.{optionAt}
@@ -55,3 +56,13 @@ noAnswer width = cond (isOff width) NoDerivation LastSetEmpty
 abbrev pub Concluded : Option Hyp → Book → ℤ → ℕ → List ℕ → List ℕ → Core → Type 0
 Concluded none book width states words₀ words₁ r = (r ≡ refusedBy (noAnswer width)) × (words₁ ≡ words₀)
 Concluded (some q) book width states words₀ words₁ r = Told book q states words₀ words₁ r
+
+-- "Does the store hold the states entered ..? No: 13."
+abbrev pub SearchedIf : Bool → Book → List ℕ → ℤ → List ℕ → List ℕ → Core → Type 0
+SearchedIf true book direction width words₀ words₁ r =
+    Concluded (answer book direction width) book width (length (entered book direction width)) words₀ words₁ r
+SearchedIf false book direction width words₀ words₁ r = (r ≡ refusedBy StoreTooSmall) × (words₁ ≡ words₀)
+
+-- what the search answers with a store of so many places
+abbrev pub Searched : Book → List ℕ → ℤ → ℕ → List ℕ → List ℕ → Core → Type 0
+Searched book direction width places words₀ words₁ r = SearchedIf (leb (length (entered book direction width)) places) book direction width words₀ words₁ r

@@ -9,15 +9,15 @@ use notes::Refusal;
 use store::Found;
 use store::Grown;
 ghost use mathlib.Core.Path.{_≡_};
-ghost use Prim.Native.Nat.{ℕ, _+_, _*_, _≤_, _<_};
+ghost use Prim.Native.Nat.{ℕ, _+_, _*_, _/_, _≤_, _<_};
 ghost use lib.IntN.{pos};
 ghost use lib.ListN.{length, replicate};
 ghost use Rattle.notes.specs.Book.{bookOf};
 ghost use Rattle.notes.specs.Direction.{wordCount};
 ghost use Rattle.notes.specs.Search.{answer, entered};
 ghost use Rattle.store.specs.Ghost.{Starting};
-ghost use Rattle.decoder.specs.Core.{refusedBy, noAnswer, Concluded};
-ghost use Rattle.decoder.specs.Extend.{Choices};
+ghost use Rattle.decoder.specs.Core.{refusedBy, noAnswer, Concluded, Searched};
+ghost use Rattle.decoder.specs.Extend.{Choices, Ready};
 
 // A refusal: no steps are written.
 fn refused(refusal: Refusal) -> Core
@@ -79,5 +79,56 @@ fn conclude(
             store::clearing::clear_used(store, count);
             core
         }
+    }
+}
+
+// The search from the start state on, and what it answers: 13 where the store is too small for the states entered. The store may
+// hold anything at first and is all zero afterwards.
+fn search_for_best(
+    store: &mut [i64],
+    book: &[i32],
+    direction: &[u16],
+    entries: &[usize],
+    grams: &[i32],
+    heads: &[u16],
+    links: &[u16],
+    options: &[u16],
+    starts: &[usize],
+    job: Job,
+    words: &mut [u16],
+) -> Core
+    requires { ⌜ Ready (now book) (now direction) (now entries) (now grams) (now heads) (now links) (now options) (now starts) (job .task) ⌝ }
+    requires { ⌜ 8 * wordCount (now direction) ≤ length (now words) ⌝ }
+    ensures { λ r. ⌜ Searched (bookOf (now (book .entry))) (now (direction .entry)) (job .width) (length (now (store .entry)) / 8) (now (words .entry)) (now (words .exit)) r ⌝ }
+    ensures { λ r. ⌜ now (store .exit) ≡ replicate (length (now (store .entry))) (pos 0) ⌝ }
+{
+    store::clearing::clear(store);
+    match levels::search(
+        store,
+        book,
+        direction,
+        entries,
+        grams,
+        heads,
+        links,
+        options,
+        starts,
+        job,
+    ) {
+        Grown::Overflow => {
+            store::clearing::clear(store);
+            refused(Refusal::StoreTooSmall)
+        }
+        Grown::On(count) => conclude(
+            store,
+            count,
+            book,
+            direction,
+            entries,
+            options,
+            starts,
+            job,
+            words,
+        ),
     }
 }

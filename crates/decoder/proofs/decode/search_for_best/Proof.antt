@@ -1,0 +1,83 @@
+-- The store is empty before the search; where it overflows or the search is over, it is cleared.
+use borrow.Author.Needs.{needs}
+use native.Mathlib.Omega.{arith}
+use mathlib.Core.Path.{_≡_, refl, sym, _∙_, ap, subst}
+use mathlib.Core.List.{List}
+use Prim.Native.Nat.{ℕ, _/_, _≤_, _<_}
+use lib.IntN.{ℤ, pos}
+use lib.ListN.{length, replicate}
+use Rattle.decoder.proofs.Deciding.{too-small, large-enough, places-fit, places-lack}
+use borrow.Author.Needs.{needs}
+use Rattle.decoder.proofs.decode.search_for_best.Statement.{statement}
+use Rattle.decoder.proofs.decode.search_for_best.Tie as tie
+use Rattle.decoder.proofs.decode.search_for_best.Reads as reads
+use Rattle.decoder.proofs.decode.search_for_best.Lts as lts
+use Rattle.decoder.proofs.decode.conclude.Reads as conclude-reads
+use Rattle.decoder.proofs.decode.refused.Reads as refused-reads
+use Rattle.decoder.proofs.levels.search.Reads as search-reads
+use Rattle.store.proofs.clearing.clear.Reads as clear-reads
+
+-- src/decode.rt:105:5
+clear-requires : tie.Need-clear-requires
+clear-requires c κs = search needs
+
+-- src/decode.rt:106:11
+search-requires : tie.Need-search-requires
+search-requires c κs = (c .before .before .before .before .before .before .before .before .before .before .before .pre .0, c .before .before .clear .ensures ∙ ap (λ (m : ℕ). replicate m (pos 0)) (sym (c .before .before .clear .kept .0)))
+
+-- src/decode.rt:108:36
+enum-told : tie.Need-enum-told
+enum-told c = search needs
+
+-- src/decode.rt:108:13
+clear-requires-2 : tie.Need-clear-requires-2
+clear-requires-2 c κs = search needs
+
+-- src/decode.rt:109:13
+refused-requires : tie.Need-refused-requires
+refused-requires c κs = search needs
+
+-- src/decode.rt:111:19
+enum-known-count : tie.Need-enum-known-count
+enum-known-count c = search needs
+
+-- src/decode.rt:111:29
+conclude-requires : tie.Need-conclude-requires
+conclude-requires c κs = let s = c .before .before .before .before .before .before .before .before .before .before .before .before .before .before .before .before .before .before in (s .pre .0 .choices, (rw (c .before .before .before .count .given .1) at (c .before .before .before .before .before .before .search .ensures), s .pre .1))
+
+-- src/decode.rt:87:1
+same-length : tie.Need-same-length
+same-length c = search needs
+
+-- src/decode.rt:87:1
+returns : tie.Need-returns
+returns c = let s = c .before .before .before .before .before .before .before .before .before .before .before .before .before .before .before .before .before .before .before in let long = c .before .before .before .before .before .before .before .search .kept .0 ∙ c .before .before .before .before .before .before .before .before .before .before .clear .kept .0 in let o = rw (c .before .before .before .before .enum-told .given .1) at (c .before .before .before .before .before .before .before .search .ensures) in (too-small _ _ _ _ (places-lack _ _ _ (rw long at o)) _ _ _ (c .refused .ensures, refl), c .before .before .clear2 .ensures ∙ ap (λ (m : ℕ). replicate m (pos 0)) long)
+
+-- src/decode.rt:87:1
+same-length-2 : tie.Need-same-length-2
+same-length-2 c = search needs
+
+-- src/decode.rt:87:1
+same-length-3 : tie.Need-same-length-3
+same-length-3 c = search needs
+
+-- src/decode.rt:87:1
+returns-2 : tie.Need-returns-2
+returns-2 c = let long = c .before .before .before .before .before .before .before .before .before .before .search .kept .0 ∙ c .before .before .before .before .before .before .before .before .before .before .before .before .before .clear .kept .0 in let start = rw (c .before .before .before .before .before .before .before .count .given .1) at (c .before .before .before .before .before .before .before .before .before .before .search .ensures) in (large-enough _ _ _ _ (rw long at (places-fit _ _ _ start)) _ _ _ (c .before .before .before .conclude .ensures .0), c .before .before .before .conclude .ensures .1 ∙ ap (λ (m : ℕ). replicate m (pos 0)) long)
+
+pub search-for-best-spec : {M : Type 1} → statement M
+search-for-best-spec =
+    tie.close
+    (tie.spec
+    clear-requires
+    search-requires
+    enum-told
+    clear-requires-2
+    refused-requires
+    enum-known-count
+    conclude-requires
+    same-length
+    returns
+    same-length-2
+    same-length-3
+    returns-2)
