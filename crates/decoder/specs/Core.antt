@@ -10,9 +10,10 @@ use lib.ListN.{length, getD}
 use Rattle.notes.specs.Book.{Book}
 use Rattle.notes.specs.Derivation.{targetWords}
 use Rattle.notes.specs.Direction.{wordCount}
-use Rattle.notes.specs.Reply.{writtenOver}
+use Rattle.notes.specs.Reply.{writtenOver, Decodes}
 use Rattle.notes.specs.Search.{fittingSteps, isOff, answer, entered}
 use Rattle.notes.specs.State.{Hyp}
+use Rattle.notes.specs.declared.Step.{Step}
 use Rattle.notes.specs.declared.Decoded.the-variants.{Done, Refused}
 use Rattle.notes.specs.declared.Refusal.{Refusal}
 use Rattle.notes.specs.declared.Refusal.the-variants.{StoreTooSmall, NoDerivation, LastSetEmpty}
@@ -66,3 +67,10 @@ SearchedIf false book direction width words₀ words₁ r = (r ≡ refusedBy Sto
 -- what the search answers with a store of so many places
 abbrev pub Searched : Book → List ℕ → ℤ → ℕ → List ℕ → List ℕ → Core → Type 0
 Searched book direction width places words₀ words₁ r = SearchedIf (leb (length (entered book direction width)) places) book direction width words₀ words₁ r
+
+-- the answer on plain numbers fixes the whole of a decode into any list of `room` step records
+pub record CoreDecodes (loaded : List ℤ) (direction : List ℕ) (width : ℤ) (room : ℕ) (words₀ words₁ : List ℕ) (store₀ store₁ : List ℤ) (r : Core) : Type 0 where
+  pub has-room : r .plain .count ≤ room
+  pub few : r .plain .count ≤ 33
+  pub decodes : (steps₀ : List Step) → length steps₀ ≡ room
+      → Decodes loaded direction width steps₀ (writtenOver (stepsOf (r .plain)) steps₀) words₀ words₁ store₀ store₁ (r .reply)

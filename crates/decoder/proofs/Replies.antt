@@ -1,0 +1,155 @@
+-- The answer on plain numbers is that of the definition, question by question.
+use Prim.Native.Nat.{ℕ, suc, _+_, _*_, _/_, _≤_, _<_}
+use native.Mathlib.Omega.{arith}
+use mathlib.Core.Path.{_≡_, refl, sym, _∙_, ap, subst}
+use mathlib.Core.Bool.{Bool, true, false, not, cond, _&&_, _||_, true≢false}
+use mathlib.Core.List.{List, [], _∷_}
+use mathlib.Core.Option.{Option, none, some}
+use lib.Dec.{leb}
+use lib.IntN.{ℤ, pos, negsuc}
+use lib.Signed.{leZ}
+use lib.ListN.{length, replicate, length-replicate}
+use Rattle.laws.specs.Lists.{isEmpty}
+use Rattle.notes.specs.Questions.{_unless_, _orelse_, number}
+use Rattle.notes.specs.Book.{Book, bookOf, bookRefusal}
+use Rattle.notes.specs.Direction.{wordCount, directionRefusal}
+use Rattle.notes.specs.Derivation.{isValid, targetWords}
+use Rattle.notes.specs.State.{Hyp, start, wordsCovered}
+use Rattle.notes.specs.Search.{isOff, entered, lastSet, answer}
+use Rattle.notes.specs.Reply.{Reply, refused, done, reply, writtenOver, Lent, Outcome, decodedReply, beforeSearch, afterSearch, decodeRefusal, answerScore, decode, clearedIf, decodedStore, Written, ListsAfter, Decodes}
+use Rattle.notes.specs.declared.Decoded.{Decoded}
+use Rattle.notes.specs.declared.Refusal.{Refusal}
+use Rattle.notes.specs.declared.Refusal.the-variants.{Width, StepsOrWordsTooShort, StoreTooSmall, NoDerivation, LastSetEmpty}
+use Rattle.notes.specs.declared.Step.{Step}
+use Rattle.notes.proofs.Answers.{answer-derives, answer-none}
+use Rattle.notes.proofs.Valid.{proposal-valid}
+use Rattle.derivation.proofs.Long.{passes-short}
+use Rattle.records.specs.Plain.{stepsOf}
+use Rattle.decoder.specs.declared.Core.{Core}
+use Rattle.decoder.specs.Core.{Told, refusedBy, noAnswer, Concluded, SearchedIf, CoreDecodes}
+
+-- a valid derivation has no more steps than words
+valid-short : (book : Book) (direction : List ℕ) (steps : List Step) → isValid book direction steps ≡ true → length steps ≤ wordCount direction
+unfolding start
+valid-short book direction steps v =
+    let l : length (start (wordCount direction) .covered) ≡ wordCount direction = length-replicate (wordCount direction) false in
+    let s = passes-short book direction (start (wordCount direction)) steps l (proposal-valid book direction steps .1 v) in
+    omega arith
+
+not-empty : (l : List Hyp) → (l ≡ [] → ⊥) → isEmpty l ≡ false
+not-empty [] f = absurd (f refl)
+not-empty (q ∷ l) f = refl
+
+abbrev isSome : Option Hyp → Bool
+isSome none = false
+isSome (some q) = true
+
+some-none : {q : Hyp} → some q ≡ none → ⊥
+some-none e = let t : true ≡ false = ap isSome e in absurd (true≢false t)
+
+-- 14 with pruning off, 15 with a width
+none-reply : (off : Bool) (a : Outcome) → reply (14 unless (not off || not true) orelse 15 unless not true) a ≡ refused (number (cond off NoDerivation LastSetEmpty))
+none-reply true a = refl
+none-reply false a = refl
+
+some-reply : (off : Bool) (a : Outcome) → reply (14 unless (not off || not false) orelse 15 unless not false) a ≡ done a
+some-reply true a = refl
+some-reply false a = refl
+
+module _ (loaded : List ℤ) (direction : List ℕ) (width : ℤ) (room : ℕ) (words₀ : List ℕ) (store₀ : List ℤ) where
+  abbrev book : Book
+  book = bookOf loaded
+
+  abbrev lentOf : ℕ → Lent
+  lentOf m = record { steps = m; words = length words₀; store = length store₀ }
+
+  -- ════ a refusal
+  module _ {words₁ : List ℕ} {store₁ : List ℤ} where
+    refuses : (refusal : Refusal) → decode loaded direction width (lentOf room) ≡ refused (number refusal) → words₁ ≡ words₀ → store₁ ≡ decodedStore loaded direction width (lentOf room) store₀
+        → {r : Core} → r ≡ refusedBy refusal → CoreDecodes loaded direction width room words₀ words₁ store₀ store₁ r
+    refuses refusal d w s e =
+        subst (CoreDecodes loaded direction width room words₀ words₁ store₀ store₁) (sym e)
+        (record {
+          has-room = omega arith;
+          few = omega arith;
+          decodes = λ steps₀ l. record {
+            reply-is = sym (subst (λ (m : ℕ). decode loaded direction width (lentOf m) ≡ refused (number refusal)) (sym l) d);
+            lists-are = (refl, w);
+            store-is = subst (λ (m : ℕ). store₁ ≡ decodedStore loaded direction width (lentOf m) store₀) (sym l) s;
+          };
+        })
+
+  module _ (b : bookRefusal loaded ≡ 0) (d : directionRefusal direction ≡ 0) where
+    -- ════ questions 11 and 12: no list changes
+    pub refuses-11 : leZ (negsuc 0) width ≡ false → {r : Core} → r ≡ refusedBy Width → CoreDecodes loaded direction width room words₀ words₀ store₀ store₀ r
+    unfolding decode decodeRefusal beforeSearch decodedStore
+    refuses-11 w = refuses Width (rw (b, d, w)) refl (rw (b, d, w))
+
+    module _ (w : leZ (negsuc 0) width ≡ true) where
+      pub refuses-12 : leb (wordCount direction) room && leb (8 * wordCount direction) (length words₀) ≡ false → {r : Core} → r ≡ refusedBy StepsOrWordsTooShort
+          → CoreDecodes loaded direction width room words₀ words₀ store₀ store₀ r
+      unfolding decode decodeRefusal beforeSearch decodedStore
+      refuses-12 l = refuses StepsOrWordsTooShort (rw (b, d, w, l)) refl (rw (b, d, w, l))
+
+      -- ════ the search
+      module _ (l : leb (wordCount direction) room && leb (8 * wordCount direction) (length words₀) ≡ true) (fits : wordCount direction ≤ room) (few : wordCount direction ≤ 32)
+          (words₁ : List ℕ) (store₁ : List ℤ) (zero-is : store₁ ≡ replicate (length store₀) (pos 0)) where
+        cleared : store₁ ≡ decodedStore loaded direction width (lentOf room) store₀
+        unfolding decodedStore beforeSearch
+        cleared = rw (b, d, w, l) zero-is
+
+        abbrev places : Bool
+        places = leb (length (entered book direction width)) (length store₀ / 8)
+
+        full : places ≡ false → decode loaded direction width (lentOf room) ≡ refused 13
+        unfolding decode decodeRefusal beforeSearch afterSearch
+        full e = rw (b, d, w, l, e)
+
+        without : places ≡ true → answer book direction width ≡ none → decode loaded direction width (lentOf room) ≡ refused (number (noAnswer width))
+        unfolding decode decodeRefusal beforeSearch afterSearch
+        without e a =
+            let z : isEmpty (lastSet book direction width) ≡ true = ap isEmpty (answer-none book direction width .0 a) in
+            rw (b, d, w, l, e, z) (none-reply (isOff width) _)
+
+        abbrev outcome : Hyp → Outcome
+        outcome q = record { score = q .score; states = length (entered book direction width) }
+
+        with-state : (q : Hyp) → places ≡ true → answer book direction width ≡ some q → decode loaded direction width (lentOf room) ≡ done (outcome q)
+        unfolding decode decodeRefusal beforeSearch afterSearch
+        with-state q e a =
+            let z : isEmpty (lastSet book direction width) ≡ false = not-empty (lastSet book direction width) (λ n. some-none (sym a ∙ answer-none book direction width .1 n)) in
+            rw (b, d, w, l, e, z, a) (some-reply (isOff width) _)
+
+        answers : (q : Hyp) → places ≡ true → answer book direction width ≡ some q → {r : Core} → Told book q (length (entered book direction width)) words₀ words₁ r
+            → CoreDecodes loaded direction width room words₀ words₁ store₀ store₁ r
+        answers q e a {r} T =
+            let v = answer-derives book direction width q a in
+            let short = valid-short book direction (q .steps) (v .steps-valid) in
+            let c = T .count-is in
+            record {
+              has-room = omega arith;
+              few = omega arith;
+              decodes = λ steps₀ m. record {
+                reply-is = ap decodedReply (T .reply-is) ∙ sym (subst (λ (k : ℕ). decode loaded direction width (lentOf k) ≡ done (outcome q)) (sym m) (with-state q e a));
+                lists-are = subst (λ (x : Decoded). ListsAfter book direction x steps₀ (writtenOver (stepsOf (r .plain)) steps₀) words₀ words₁) (sym (T .reply-is))
+                    (record {
+                      steps = q .steps;
+                      words = targetWords book (q .steps);
+                      derivation = v;
+                      steps-counted = refl;
+                      words-counted = refl;
+                      steps-after = ap (λ (xs : List Step). writtenOver xs steps₀) (T .steps-are);
+                      words-after = T .words-after;
+                    });
+                store-is = subst (λ (k : ℕ). store₁ ≡ decodedStore loaded direction width (lentOf k) store₀) (sym m) cleared;
+              };
+            }
+
+        concludes : (o : Option Hyp) → places ≡ true → answer book direction width ≡ o → (r : Core) → Concluded o book width (length (entered book direction width)) words₀ words₁ r
+            → CoreDecodes loaded direction width room words₀ words₁ store₀ store₁ r
+        concludes none e a r (is, same) = refuses (noAnswer width) (without e a) same cleared is
+        concludes (some q) e a r T = answers q e a T
+
+        pub searches : (p : Bool) → places ≡ p → (r : Core) → SearchedIf p book direction width words₀ words₁ r → CoreDecodes loaded direction width room words₀ words₁ store₀ store₁ r
+        searches true e r C = concludes (answer book direction width) e refl r C
+        searches false e r (is, same) = refuses StoreTooSmall (full e) same cleared is
