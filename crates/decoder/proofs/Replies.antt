@@ -1,15 +1,18 @@
 -- The answer on plain numbers is that of the definition, question by question.
-use Prim.Native.Nat.{ℕ, suc, _+_, _*_, _/_, _≤_, _<_}
+use Prim.Native.Nat.{ℕ, suc, _+_, _*_, _/_, _^_, _≤_, _<_}
 use native.Mathlib.Omega.{arith}
 use mathlib.Core.Path.{_≡_, refl, sym, _∙_, ap, subst}
 use mathlib.Core.Bool.{Bool, true, false, not, cond, _&&_, _||_, true≢false}
 use mathlib.Core.List.{List, [], _∷_}
 use mathlib.Core.Option.{Option, none, some}
+use borrow.Author.Tests.{leb-true}
 use lib.Dec.{leb}
 use lib.IntN.{ℤ, pos, negsuc}
 use lib.Signed.{leZ}
 use lib.ListN.{length, replicate, length-replicate}
 use Rattle.laws.specs.Lists.{isEmpty}
+use Rattle.laws.proofs.Tests.{both}
+use Rattle.book.specs.Entries.{EntriesAt}
 use Rattle.notes.specs.Questions.{_unless_, _orelse_, number}
 use Rattle.notes.specs.Book.{Book, bookOf, bookRefusal}
 use Rattle.notes.specs.Direction.{wordCount, directionRefusal}
@@ -22,10 +25,15 @@ use Rattle.notes.specs.declared.Refusal.{Refusal}
 use Rattle.notes.specs.declared.Refusal.the-variants.{Width, StepsOrWordsTooShort, StoreTooSmall, NoDerivation, LastSetEmpty}
 use Rattle.notes.specs.declared.Step.{Step}
 use Rattle.notes.proofs.Answers.{answer-derives, answer-none}
+use Rattle.notes.proofs.Demands.{direction-to}
 use Rattle.notes.proofs.Valid.{proposal-valid}
+use Rattle.derivation.specs.Options.{OptionsOf}
+use Rattle.derivation.specs.Prepared.{Prepared}
+use Rattle.derivation.specs.declared.Task.{Task}
 use Rattle.derivation.proofs.Long.{passes-short}
 use Rattle.records.specs.Plain.{stepsOf}
 use Rattle.decoder.specs.declared.Core.{Core}
+use Rattle.decoder.specs.Extend.{Ready}
 use Rattle.decoder.specs.Core.{Told, refusedBy, noAnswer, Concluded, SearchedIf, CoreDecodes}
 
 -- a valid derivation has no more steps than words
@@ -153,3 +161,30 @@ module _ (loaded : List ℤ) (direction : List ℕ) (width : ℤ) (room : ℕ) (
         pub searches : (p : Bool) → places ≡ p → (r : Core) → SearchedIf p book direction width words₀ words₁ r → CoreDecodes loaded direction width room words₀ words₁ store₀ store₁ r
         searches true e r C = concludes (answer book direction width) e refl r C
         searches false e r (is, same) = refuses StoreTooSmall (full e) same cleared is
+
+-- ════ the lists of the search are ready
+
+pub made-ready : {loaded : List ℤ} {direction entries : List ℕ} {grams : List ℤ} {heads links options starts : List ℕ} {t : Task} → Prepared loaded direction grams heads links t
+    → EntriesAt loaded entries (t .phrases) → t .phrases ≤ length entries → OptionsOf (bookOf loaded) direction options starts → length options < 2 ^ 63 → 33 ≤ length starts
+    → Ready loaded direction entries grams heads links options starts t
+made-ready {direction} R at many of small long =
+    record {
+      prepared = R;
+      choices = record {
+        n-is = R .n-is;
+        few = direction-to direction (R .directed);
+        phrases-are = R .phrases-are;
+        entries-at = at;
+        entries-room = many;
+        options-of = of;
+        options-small = small;
+        starts-room = long;
+      };
+    }
+
+-- question 12, as it was asked
+pub room-is : (room words : ℕ) {n m : ℕ} {b : Bool} → n ≡ m → b ≡ leb n room && leb (8 * n) words → leb m room && leb (8 * m) words ≡ b
+room-is room words e t = ap (λ (k : ℕ). leb k room && leb (8 * k) words) (sym e) ∙ sym t
+
+pub room-both : (m room words : ℕ) → leb m room && leb (8 * m) words ≡ true → (m ≤ room) × (8 * m ≤ words)
+room-both m room words e = let u = both (leb m room) (leb (8 * m) words) e in (leb-true m room (u .0), leb-true (8 * m) words (u .1))

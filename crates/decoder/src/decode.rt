@@ -15,8 +15,12 @@ ghost use lib.ListN.{length, replicate};
 ghost use Rattle.notes.specs.Book.{bookOf};
 ghost use Rattle.notes.specs.Direction.{wordCount};
 ghost use Rattle.notes.specs.Search.{answer, entered};
+ghost use mathlib.Core.Bool.{_&&_};
+ghost use lib.Dec.{leb};
+ghost use Rattle.book.specs.Entries.{EntriesAt};
+ghost use Rattle.derivation.specs.Prepared.{Prepared};
 ghost use Rattle.store.specs.Ghost.{Starting};
-ghost use Rattle.decoder.specs.Core.{refusedBy, noAnswer, Concluded, Searched};
+ghost use Rattle.decoder.specs.Core.{refusedBy, noAnswer, Concluded, Searched, CoreDecodes};
 ghost use Rattle.decoder.specs.Extend.{Choices, Ready};
 
 // A refusal: no steps are written.
@@ -131,4 +135,56 @@ fn search_for_best(
             words,
         ),
     }
+}
+
+// Question 12: the step list has at least n places, and the word list at least 8 × n.
+fn has_room(n: usize, room: usize, words: usize) -> bool
+    requires { ⌜ n ≤ 32 ⌝ }
+    ensures { λ r. ⌜ r ≡ leb n room && leb (8 * n) words ⌝ }
+{
+    n <= room && 8 * n <= words
+}
+
+// Questions 11 to 15 and the answer, where 2 to 6, 9 and 10 pass; the caller's step list has `room` places.
+pub fn decode_with(
+    book: &[i32],
+    direction: &[u16],
+    entries: &[usize],
+    grams: &[i32],
+    heads: &[u16],
+    links: &[u16],
+    options: &mut [u16],
+    starts: &mut [usize],
+    job: Job,
+    room: usize,
+    words: &mut [u16],
+    store: &mut [i64],
+) -> Core
+    requires { ⌜ Prepared (now book) (now direction) (now grams) (now heads) (now links) (job .task) ⌝ }
+    requires { ⌜ EntriesAt (now book) (now entries) (job .task .phrases) × (job .task .phrases ≤ length (now entries)) ⌝ }
+    requires { ⌜ (32 * 4096 ≤ length (now options)) × (33 ≤ length (now starts)) ⌝ }
+    ensures { λ r. ⌜ CoreDecodes (now (book .entry)) (now (direction .entry)) (job .width) room (now (words .entry)) (now (words .exit)) (now (store .entry)) (now (store .exit)) r ⌝ }
+{
+    let t = job.task;
+    let width = job.width;
+    if width < -1 {
+        return refused(Refusal::Width);
+    }
+    if !has_room(t.n, room, words.len()) {
+        return refused(Refusal::StepsOrWordsTooShort);
+    }
+    options::list_options(book, entries, t, direction, options, starts);
+    search_for_best(
+        store,
+        book,
+        direction,
+        entries,
+        grams,
+        heads,
+        links,
+        options,
+        starts,
+        job,
+        words,
+    )
 }
