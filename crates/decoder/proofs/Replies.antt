@@ -73,7 +73,7 @@ module _ (loaded : List ℤ) (direction : List ℕ) (width : ℤ) (room : ℕ) (
 
   -- ════ a refusal
   module _ {words₁ : List ℕ} {store₁ : List ℤ} where
-    refuses : (refusal : Refusal) → decode loaded direction width (lentOf room) ≡ refused (number refusal) → words₁ ≡ words₀ → store₁ ≡ decodedStore loaded direction width (lentOf room) store₀
+    pub refuses : (refusal : Refusal) → decode loaded direction width (lentOf room) ≡ refused (number refusal) → words₁ ≡ words₀ → store₁ ≡ decodedStore loaded direction width (lentOf room) store₀
         → {r : Core} → r ≡ refusedBy refusal → CoreDecodes loaded direction width room words₀ words₁ store₀ store₁ r
     refuses refusal d w s e =
         subst (CoreDecodes loaded direction width room words₀ words₁ store₀ store₁) (sym e)

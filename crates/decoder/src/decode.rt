@@ -24,7 +24,7 @@ ghost use Rattle.decoder.specs.Core.{refusedBy, noAnswer, Concluded, Sea
 ghost use Rattle.decoder.specs.Extend.{Choices, Ready};
 
 // A refusal: no steps are written.
-fn refused(refusal: Refusal) -> Core
+pub fn refused(refusal: Refusal) -> Core
     ensures { λ r. ⌜ r ≡ refusedBy refusal ⌝ }
 {
     Core {

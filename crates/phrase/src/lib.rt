@@ -1,6 +1,10 @@
 // The calls of document 01 that take a caller's list of step records.
+use notes::Decoded;
 use notes::Scored;
 use notes::Step;
+
+pub mod plain;
+
 ghost use mathlib.Core.Path.{_≡_};
 ghost use Rattle.notes.specs.Reply.{scoredReply, scoreProposal};
 

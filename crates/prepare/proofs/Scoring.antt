@@ -14,7 +14,7 @@ use Rattle.notes.specs.State.{start}
 use Rattle.notes.specs.Reply.{Reply, refused, reply, stepsRefusal, proposalRefusal, scoreProposal}
 use Rattle.notes.specs.declared.Step.{Step}
 use Rattle.notes.specs.declared.Refusal.{Refusal}
-use Rattle.reading.proofs.Numbered.{number-from, refused-first, refused-reply}
+use Rattle.reading.proofs.Numbered.{refused-before-all, refused-reply}
 use Rattle.derivation.specs.Proposal.{stepIn, stepsIn}
 use Rattle.records.specs.declared.Plain.{Plain}
 use Rattle.records.specs.Plain.{stepIn as recordIn, stepsTo, stepsOf}
@@ -60,11 +60,7 @@ module _ (loaded : List ℤ) (direction : List ℕ) (steps : List Step) where
   -- where one of them is refused, that is the reply
   pub refused-before : (refusal : Refusal) → (bookRefusal loaded orelse directionRefusal direction) ≡ number refusal → refused (number refusal) ≡ scoreProposal loaded direction steps
   unfolding scoreProposal proposalRefusal
-  refused-before refusal e = refused-reply refusal _ (scoreOf (bookOf loaded) steps) (longer (bookRefusal loaded) (directionRefusal direction) _ e)
-    where
-      longer : (j k m : ℕ) → (j orelse k) ≡ number refusal → (j orelse (k orelse m)) ≡ number refusal
-      longer zero k m q = ap (λ (i : ℕ). i orelse m) q ∙ refused-first (number refusal) m (number-from refusal)
-      longer (suc j) k m q = q
+  refused-before refusal e = refused-reply refusal _ (scoreOf (bookOf loaded) steps) (refused-before-all refusal (bookRefusal loaded) (directionRefusal direction) _ e)
 
 -- what 16 to 19 answer to the numbers is the reply to the steps that they stand for
 pub scored-last : (loaded : List ℤ) (direction : List ℕ) (p : Plain) (y : Reply ℤ) → bookRefusal loaded ≡ 0 → directionRefusal direction ≡ 0

@@ -1,7 +1,7 @@
 -- The number of a refusal is not 0, which is the number of none.
 use Prim.Native.Nat.{ℕ, zero, suc, _≤_}
 use native.Mathlib.Omega.{arith}
-use mathlib.Core.Path.{_≡_, refl, sym, ap}
+use mathlib.Core.Path.{_≡_, refl, sym, _∙_, ap}
 use Rattle.notes.specs.Questions.{_orelse_, number}
 use Rattle.notes.specs.Reply.{Reply, refused, reply}
 use Rattle.notes.specs.declared.Refusal.{Refusal}
@@ -32,6 +32,11 @@ number-from Uncovered = omega arith
 pub refused-first : (k m : ℕ) → 1 ≤ k → k orelse m ≡ k
 refused-first zero m h = absurd (omega arith)
 refused-first (suc k) m h = refl
+
+-- so does one of two, whatever is asked after them
+pub refused-before-all : (refusal : Refusal) (j k m : ℕ) → (j orelse k) ≡ number refusal → (j orelse (k orelse m)) ≡ number refusal
+refused-before-all refusal zero k m e = ap (λ (i : ℕ). i orelse m) e ∙ refused-first (number refusal) m (number-from refusal)
+refused-before-all refusal (suc j) k m e = e
 
 -- and the chain's reply is its refusal
 pub refused-reply : {A : Type 0} (refusal : Refusal) (k : ℕ) (a : A) → k ≡ number refusal → refused (number refusal) ≡ reply k a

@@ -1,0 +1,52 @@
+// Decoding on plain numbers, with all that a search needs in local arrays: about 560 KB of stack.
+use decoder::Core;
+use decoder::Job;
+use decoder::decode;
+use prepare::Start;
+ghost use Rattle.decoder.specs.Core.{CoreDecodes};
+
+// Questions 2 to 6, 9 and 10, then 11 to 15 and the answer, for a step list of `room` places.
+pub fn decode_plain(
+    book: &[i32],
+    direction: &[u16],
+    width: i64,
+    room: usize,
+    words: &mut [u16],
+    store: &mut [i64],
+) -> Core
+    ensures { λ r. ⌜ CoreDecodes (now (book .entry)) (now (direction .entry)) width room (now (words .entry)) (now (words .exit)) (now (store .entry)) (now (store .exit)) r ⌝ }
+{
+    let mut grams = [0i32; 32768];
+    let mut heads = [0u16; 8192];
+    let mut links = [0u16; 8192];
+    let mut entries = [0usize; 4096];
+    let mut options = [0u16; 131072];
+    let mut starts = [0usize; 33];
+    match prepare::prepare(
+        book,
+        direction,
+        &mut grams,
+        &mut heads,
+        &mut links,
+        &mut entries,
+    ) {
+        Start::Ready(task) => {
+            let job = Job { task, width };
+            decode::decode_with(
+                book,
+                direction,
+                &entries,
+                &grams,
+                &heads,
+                &links,
+                &mut options,
+                &mut starts,
+                job,
+                room,
+                words,
+                store,
+            )
+        }
+        Start::Refused(refusal) => decode::refused(refusal),
+    }
+}
