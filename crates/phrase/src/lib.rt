@@ -6,7 +6,7 @@ use notes::Step;
 pub mod plain;
 
 ghost use mathlib.Core.Path.{_≡_};
-ghost use Rattle.notes.specs.Reply.{scoredReply, scoreProposal};
+ghost use Rattle.notes.specs.Reply.{scoredReply, scoreProposal, Decodes};
 
 // "Scoring a proposed list", of any length: questions 2 to 6, 9, 10 and 16 to 19, and the score of the steps where none
 // refuses. The first 33 records decide: of 32 words none is left for the 33rd.
@@ -15,4 +15,22 @@ pub fn score(book: &[i32], direction: &[u16], steps: &[Step]) -> Scored
 {
     let plain = records::gather(steps);
     prepare::score_plain(book, direction, plain)
+}
+
+// "Decoding, after 2 to 6, 9 and 10": 11 to 15, and the answer where none refuses. Width -1 is pruning off; a store of 8 numbers
+// for each state entered is enough. Whatever stands in the lists is taken; after 13, 14, 15 and success the store is all zero.
+// Document 01's form: a lent slice of step structs; the core writes plain numbers first, and `put_all` stores the records.
+pub fn decode(
+    book: &[i32],
+    direction: &[u16],
+    width: i64,
+    steps: &mut [Step],
+    words: &mut [u16],
+    store: &mut [i64],
+) -> Decoded
+    ensures { λ r. ⌜ Decodes (now (book .entry)) (now (direction .entry)) width (now (steps .entry)) (now (steps .exit)) (now (words .entry)) (now (words .exit)) (now (store .entry)) (now (store .exit)) r ⌝ }
+{
+    let answer = plain::decode_plain(book, direction, width, steps.len(), words, store);
+    records::put_all(steps, answer.plain);
+    answer.reply
 }
