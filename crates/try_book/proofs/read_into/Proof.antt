@@ -1,0 +1,39 @@
+use mathlib.Core.Path.{sym}
+use native.Mathlib.Omega.{arith}
+use lib.Seq.{length-take-le}
+use borrow.Author.Needs.{needs}
+use Rattle.try_book.proofs.read_into.Statement.{statement}
+use Rattle.try_book.proofs.read_into.Tie as tie
+
+slice-relend-prefix-read-book : tie.Need-slice-relend-prefix-read-book
+slice-relend-prefix-read-book c = search needs
+
+slice-aggregate-read-book : tie.Need-slice-aggregate-read-book
+slice-aggregate-read-book c = sym (length-take-le _ _ (omega arith))
+
+read-book-requires : tie.Need-read-book-requires
+read-book-requires c κs = search needs
+
+told-requires : tie.Need-told-requires
+told-requires c κs = search needs
+
+same-length : tie.Need-same-length
+same-length c = search needs
+
+returns : tie.Need-returns
+returns c = search needs
+
+returns-2 : tie.Need-returns-2
+returns-2 c = search needs
+
+pub read-into-spec : {M : Type 1} → statement M
+read-into-spec =
+    tie.close
+    (tie.spec
+    slice-relend-prefix-read-book
+    slice-aggregate-read-book
+    read-book-requires
+    told-requires
+    same-length
+    returns
+    returns-2)
