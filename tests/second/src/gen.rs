@@ -1,0 +1,965 @@
+//! Deterministic random inputs: books as lines, as loaded lists and as text, directions, widths,
+//! list lengths and proposals; good ones, and ones damaged so that a given question refuses them.
+
+use crate::{plain, Book, Step};
+use std::collections::HashSet;
+
+/// SplitMix64.
+#[derive(Clone, Debug)]
+pub struct Rng(u64);
+
+impl Rng {
+    pub fn new(seed: u64) -> Rng {
+        Rng(seed)
+    }
+    pub fn draw(&mut self) -> u64 {
+        self.0 = self.0.wrapping_add(0x9E37_79B9_7F4A_7C15);
+        let mut z = self.0;
+        z = (z ^ (z >> 30)).wrapping_mul(0xBF58_476D_1CE4_E5B9);
+        z = (z ^ (z >> 27)).wrapping_mul(0x94D0_49BB_1331_11EB);
+        z ^ (z >> 31)
+    }
+    /// 0 to n - 1; n at least 1.
+    pub fn below(&mut self, n: usize) -> usize {
+        (self.draw() % n as u64) as usize
+    }
+    /// low to high, both included.
+    pub fn between(&mut self, low: i64, high: i64) -> i64 {
+        low + (self.draw() % (high - low + 1) as u64) as i64
+    }
+    /// True in `part` of `whole` cases.
+    pub fn chance(&mut self, part: usize, whole: usize) -> bool {
+        self.below(whole) < part
+    }
+    pub fn pick<T: Copy>(&mut self, of: &[T]) -> T {
+        of[self.below(of.len())]
+    }
+}
+
+/// A book as lines: each the kind (1, 2, 3) and then its numbers.
+pub type Lines = Vec<Vec<i64>>;
+
+/// What kind of books and directions are made.
+#[derive(Clone, Debug)]
+pub struct Shape {
+    /// Source words are source_base .. source_base + source_words - 1, and so for the target.
+    pub source_base: i64,
+    pub source_words: i64,
+    pub target_base: i64,
+    pub target_words: i64,
+    pub max_phrases: usize,
+    pub max_triples: usize,
+    pub max_source: i64,
+    pub max_target: i64,
+    pub max_direction: usize,
+    /// Scores from a handful of small numbers, entries repeated: ties and pruning are frequent.
+    pub ties: bool,
+}
+
+impl Shape {
+    /// Small enough that every derivation can be listed.
+    pub fn small(rng: &mut Rng) -> Shape {
+        let ties = rng.chance(1, 2);
+        let source_words = rng.between(1, 4);
+        let target_words = rng.between(1, if ties { 3 } else { 6 });
+        Shape {
+            source_base: rng.pick(&[1, 11, 300, 65_536 - source_words]),
+            source_words,
+            target_base: rng.pick(&[1, 101, 300, 65_536 - target_words]),
+            target_words,
+            max_phrases: 9,
+            max_triples: rng.pick(&[0, 4, 12, 30]),
+            max_source: rng.pick(&[1, 2, 3, 3, 8]),
+            max_target: rng.pick(&[1, 2, 3, 3, 8]),
+            max_direction: 6,
+            ties,
+        }
+    }
+
+    /// The same with ties and pruning frequent.
+    pub fn small_ties(rng: &mut Rng) -> Shape {
+        let mut shape = Shape::small(rng);
+        shape.ties = true;
+        shape.target_words = shape.target_words.min(3);
+        shape
+    }
+
+    /// For runs against another decoder: longer directions, more phrases, hundreds to thousands
+    /// of states.
+    pub fn middle(rng: &mut Rng) -> Shape {
+        let mut shape = Shape::small(rng);
+        shape.source_words = rng.between(3, 12);
+        shape.target_words = rng.between(2, 12);
+        shape.source_base = rng.pick(&[1, 11, 65_536 - shape.source_words]);
+        shape.target_base = rng.pick(&[1, 101, 65_536 - shape.target_words]);
+        shape.max_phrases = 40;
+        shape.max_triples = 200;
+        shape.max_direction = rng.pick(&[8, 10, 12, 32]);
+        shape
+    }
+
+    fn source(&self, rng: &mut Rng) -> i64 {
+        self.source_base + rng.below(self.source_words as usize) as i64
+    }
+    fn target(&self, rng: &mut Rng) -> i64 {
+        self.target_base + rng.below(self.target_words as usize) as i64
+    }
+    fn score(&self, rng: &mut Rng) -> i64 {
+        if self.ties {
+            return rng.between(-2, 1);
+        }
+        match rng.below(8) {
+            0 => rng.pick(&[-1_000_000, 1_000_000, 0, -999_999, 999_999]),
+            1 => rng.between(-1_000_000, 1_000_000),
+            2 => rng.between(-9, 9),
+            _ => rng.between(-3_000, 0),
+        }
+    }
+    fn eta(&self, rng: &mut Rng) -> i64 {
+        if self.ties {
+            return rng.between(-1, 1);
+        }
+        match rng.below(6) {
+            0 => rng.pick(&[-10_000, 10_000, 0]),
+            1 => rng.between(-10_000, 10_000),
+            _ => rng.between(-500, 0),
+        }
+    }
+}
+
+// ------------------------------------------------------------------------------------- books
+
+/// A good book as lines.
+pub fn lines(rng: &mut Rng, shape: &Shape) -> Lines {
+    let d = match rng.below(8) {
+        0 => 0,
+        1 => 32,
+        _ => rng.between(0, shape.max_direction as i64),
+    };
+    let mut body: Lines = Vec::new();
+    // A word-for-word entry for most source words, so that derivations are common.
+    let mut phrases = 0;
+    if rng.chance(3, 4) {
+        for k in 0..shape.source_words {
+            if phrases < shape.max_phrases && rng.chance(7, 8) {
+                let b = rng.between(1, shape.max_target.min(2));
+                let mut line = vec![2, 1, b, shape.source_base + k];
+                for _ in 0..b {
+                    line.push(shape.target(rng));
+                }
+                line.push(shape.score(rng));
+                body.push(line);
+                phrases += 1;
+            }
+        }
+    }
+    let goal = rng.below(shape.max_phrases + 1);
+    while phrases < goal {
+        if !body.is_empty() && rng.chance(1, if shape.ties { 6 } else { 20 }) {
+            // An equal entry.
+            let line = body[rng.below(body.len())].clone();
+            body.push(line);
+        } else {
+            let a = rng.between(1, shape.max_source);
+            let b = rng.between(1, shape.max_target);
+            let mut line = vec![2, a, b];
+            for _ in 0..a {
+                line.push(shape.source(rng));
+            }
+            for _ in 0..b {
+                line.push(shape.target(rng));
+            }
+            line.push(shape.score(rng));
+            body.push(line);
+        }
+        phrases += 1;
+    }
+    let mut seen = HashSet::new();
+    for _ in 0..rng.below(shape.max_triples + 1) {
+        let y = shape.target(rng);
+        let (v, w) = match rng.below(4) {
+            0 => (0, 0),
+            1 => (0, shape.target(rng)),
+            2 if rng.chance(1, 8) => (shape.target(rng), 0),
+            _ => (shape.target(rng), shape.target(rng)),
+        };
+        if seen.insert((v, w, y)) {
+            body.push(vec![3, v, w, y, shape.score(rng)]);
+        }
+    }
+    // P and T lines in any mixture.
+    if rng.chance(1, 2) {
+        for k in (1..body.len()).rev() {
+            let j = rng.below(k + 1);
+            body.swap(k, j);
+        }
+    }
+    let mut all = vec![vec![1, d, shape.eta(rng), shape.score(rng)]];
+    all.extend(body);
+    all
+}
+
+/// A good book of just so many P and T lines (each T line with words of its own).
+pub fn lines_of(rng: &mut Rng, shape: &Shape, phrases: usize, triples: usize) -> Lines {
+    let mut all = vec![vec![
+        1,
+        rng.between(0, 32),
+        shape.eta(rng),
+        shape.score(rng),
+    ]];
+    for _ in 0..phrases {
+        all.push(vec![
+            2,
+            1,
+            1,
+            shape.source(rng),
+            shape.target(rng),
+            shape.score(rng),
+        ]);
+    }
+    for k in 0..triples as i64 {
+        all.push(vec![
+            3,
+            k / 256,
+            k % 256,
+            shape.target(rng),
+            shape.score(rng),
+        ]);
+    }
+    all
+}
+
+/// Lines as a loaded list.
+pub fn loaded(lines: &Lines) -> Vec<i32> {
+    lines.iter().flatten().map(|&x| x as i32).collect()
+}
+
+/// Lines as text.
+pub fn text(lines: &Lines) -> Vec<u8> {
+    let mut out = String::new();
+    for line in lines {
+        out.push(match line[0] {
+            1 => 'B',
+            2 => 'P',
+            _ => 'T',
+        });
+        for x in &line[1..] {
+            out.push_str(&format!(",{x}"));
+        }
+        out.push('\n');
+    }
+    out.into_bytes()
+}
+
+/// Damages lines so that question `code` (3, 4, 5 or 6) refuses them, whatever is wrong by the
+/// later ones. `in_text`: the numbers must still be of 1 to 7 digits.
+pub fn damage_lines(rng: &mut Rng, shape: &Shape, lines: &mut Lines, code: u8, in_text: bool) {
+    match code {
+        3 => {
+            let kind = rng.below(4);
+            if kind == 0 && lines.len() > 1 {
+                lines.remove(0);
+            } else if kind == 1 && lines.len() > 1 {
+                let first = lines.remove(0);
+                let at = 1 + rng.below(lines.len());
+                lines.insert(at, first);
+            } else if kind == 2 && !in_text {
+                lines.clear();
+            } else {
+                let at = rng.below(lines.len() + 1);
+                let line = vec![1, rng.between(0, 32), 0, 0];
+                lines.insert(at, line);
+            }
+        }
+        4 => {
+            let k = rng.below(lines.len());
+            let line = &mut lines[k];
+            let far = if in_text { 9_999_999 } else { i32::MAX as i64 };
+            let low = if in_text { -9_999_999 } else { i32::MIN as i64 };
+            let (at, bad): (usize, Vec<i64>) = match line[0] {
+                1 => match rng.below(3) {
+                    0 => (1, vec![-1, 33, far, low]),
+                    1 => (2, vec![-10_001, 10_001, far, low]),
+                    _ => (3, vec![-1_000_001, 1_000_001, far, low]),
+                },
+                2 => {
+                    let g = line.len() - 1;
+                    let at = 3 + rng.below(g - 2);
+                    if at == g {
+                        (g, vec![-1_000_001, 1_000_001, far, low])
+                    } else {
+                        (at, vec![0, -1, 65_536, far, low])
+                    }
+                }
+                _ => match rng.below(4) {
+                    0 => (1, vec![-1, 65_536, far, low]),
+                    1 => (2, vec![-1, 65_536, far, low]),
+                    2 => (3, vec![0, -1, 65_536, far, low]),
+                    _ => (4, vec![-1_000_001, 1_000_001, far, low]),
+                },
+            };
+            line[at] = rng.pick(&bad);
+        }
+        5 => {
+            if rng.chance(1, 2) {
+                for _ in 0..4097 {
+                    lines.push(vec![2, 1, 1, shape.source(rng), shape.target(rng), 0]);
+                }
+            } else {
+                lines.retain(|line| line[0] != 3);
+                for k in 0..8193 {
+                    lines.push(vec![3, k / 256, k % 256, shape.target(rng), 0]);
+                }
+            }
+        }
+        6 => {
+            let triples: Vec<usize> = (0..lines.len()).filter(|&k| lines[k][0] == 3).collect();
+            let mut line = if triples.is_empty() {
+                let line = vec![3, 0, 0, shape.target(rng), shape.score(rng)];
+                lines.push(line.clone());
+                line
+            } else {
+                lines[rng.pick(&triples)].clone()
+            };
+            if rng.chance(1, 2) {
+                line[4] = shape.score(rng);
+            }
+            let at = 1 + rng.below(lines.len());
+            lines.insert(at, line);
+        }
+        _ => panic!("no such damage to lines"),
+    }
+}
+
+/// Damages a loaded list so that question 2 refuses it.
+pub fn damage_loaded_2(rng: &mut Rng, lines: &Lines) -> Vec<i32> {
+    let mut list = loaded(lines);
+    let mut starts = Vec::new();
+    let mut at = 0;
+    for line in lines {
+        starts.push(at);
+        at += line.len();
+    }
+    let odd = [0, 4, -1, 66, 80, 84, i32::MAX, i32::MIN];
+    let phrases: Vec<usize> = (0..lines.len())
+        .filter(|&k| lines[k][0] == 2)
+        .map(|k| starts[k])
+        .collect();
+    match rng.below(4) {
+        0 if !starts.is_empty() => list[rng.pick(&starts)] = rng.pick(&odd),
+        1 if !phrases.is_empty() => {
+            let at = rng.pick(&phrases) + 1 + rng.below(2);
+            list[at] = rng.pick(&[0, 9, -1, 10, i32::MAX, i32::MIN, 65_537, -8]);
+        }
+        2 if !starts.is_empty() => {
+            let last = *starts.last().unwrap();
+            let keep = last + 1 + rng.below(list.len() - last - 1);
+            list.truncate(keep);
+        }
+        _ => list.push(if rng.chance(1, 2) {
+            rng.pick(&odd)
+        } else {
+            rng.between(1, 3) as i32
+        }),
+    }
+    list
+}
+
+/// Damages lines so that question 2 refuses their text (and question 1 does not).
+pub fn damage_lines_for_text_2(rng: &mut Rng, lines: &mut Lines) {
+    let k = rng.below(lines.len());
+    let line = &mut lines[k];
+    match rng.below(4) {
+        0 => {
+            let keep = 2 + rng.below(line.len() - 2);
+            line.truncate(keep);
+        }
+        1 => {
+            for _ in 0..=rng.below(3) {
+                line.push(rng.between(0, 9));
+            }
+        }
+        2 if line[0] == 2 => {
+            // a or b changed, within the range or not.
+            let at = 1 + rng.below(2);
+            let old = line[at];
+            while line[at] == old {
+                line[at] = rng.between(-2, 12);
+            }
+        }
+        3 if line[0] == 2 => {
+            // A phrase of nine words, with all its fields.
+            let at = 1 + rng.below(2);
+            let place = if at == 1 { 3 } else { 3 + line[1] as usize };
+            while line[at] < 9 {
+                line[at] += 1;
+                line.insert(place, 1);
+            }
+        }
+        _ => line.push(1),
+    }
+}
+
+/// Damages a text so that question 1 refuses it.
+pub fn damage_text_1(rng: &mut Rng, text: &mut Vec<u8>) {
+    // Starts of lines, starts of numbers (after a comma), ends of lines.
+    let starts: Vec<usize> = (0..text.len())
+        .filter(|&k| k == 0 || text[k - 1] == b'\n')
+        .collect();
+    let commas: Vec<usize> = (0..text.len()).filter(|&k| text[k] == b',').collect();
+    let ends: Vec<usize> = (0..text.len()).filter(|&k| text[k] == b'\n').collect();
+    let insert = |text: &mut Vec<u8>, at: usize, what: &[u8]| {
+        text.splice(at..at, what.iter().copied());
+    };
+    match rng.below(14) {
+        0 => text.clear(),
+        1 => {
+            text.pop();
+        }
+        2 => insert(text, rng.pick(&starts), b"\n"),
+        3 => text.push(b'\n'),
+        4 => text[rng.pick(&starts)] = rng.pick(b"bptACX0 ,\r\x00\xff-"),
+        5 => insert(text, rng.pick(&starts), b"B\n"),
+        6 => insert(text, rng.pick(&commas), b","),
+        7 => insert(text, rng.pick(&ends), b","),
+        8 => {
+            let bad: &[&[u8]] = &[b"0", b"00", b"-0", b"--", b"+", b" ", b"-,", b"- "];
+            let what = bad[rng.below(bad.len())];
+            let at = rng.pick(&commas) + 1;
+            // "0" before "0" or a digit is a needless zero; before a minus no number at all.
+            insert(text, at, what);
+        }
+        9 => insert(text, rng.pick(&ends), b"\r"),
+        10 => insert(text, rng.pick(&commas) + 1, b"12345678,"),
+        11 => insert(text, rng.pick(&commas) + 1, b"1-2,"),
+        12 => {
+            let at = rng.pick(&starts) + 1;
+            text.remove(at);
+        }
+        _ => insert(
+            text,
+            rng.pick(&ends),
+            rng.pick(&[&b"."[..], b" ", b"e1", b"-", b"\x80", b";"]),
+        ),
+    }
+}
+
+/// A loaded book of which 2 to 6 say `code` (0: good).
+pub fn book_saying(rng: &mut Rng, shape: &Shape, code: u8) -> Vec<i32> {
+    let mut all = lines(rng, shape);
+    match code {
+        0 => loaded(&all),
+        2 => {
+            if rng.chance(1, 3) {
+                let later = rng.pick(&[3, 4, 6]);
+                damage_lines(rng, shape, &mut all, later, false);
+            }
+            damage_loaded_2(rng, &all)
+        }
+        _ => {
+            // Now and then something a later question would refuse too.
+            if code < 6 && rng.chance(1, 3) {
+                let later: Vec<u8> = [4, 6].into_iter().filter(|&c| c > code).collect();
+                let later = rng.pick(&later);
+                damage_lines(rng, shape, &mut all, later, false);
+            }
+            damage_lines(rng, shape, &mut all, code, false);
+            loaded(&all)
+        }
+    }
+}
+
+/// A book's text of which 1 to 6 say `code` (0: good).
+pub fn text_saying(rng: &mut Rng, shape: &Shape, code: u8) -> Vec<u8> {
+    let mut all = lines(rng, shape);
+    if (1..6).contains(&code) && rng.chance(1, 3) {
+        let later: Vec<u8> = [3, 4, 6].into_iter().filter(|&c| c > code).collect();
+        let later = rng.pick(&later);
+        damage_lines(rng, shape, &mut all, later, true);
+    }
+    match code {
+        0 => text(&all),
+        1 => {
+            let mut out = text(&all);
+            damage_text_1(rng, &mut out);
+            out
+        }
+        2 => {
+            damage_lines_for_text_2(rng, &mut all);
+            text(&all)
+        }
+        _ => {
+            damage_lines(rng, shape, &mut all, code, true);
+            text(&all)
+        }
+    }
+}
+
+/// Bytes changed, put in or taken out anywhere: what is said is for the decoders to agree on.
+pub fn mangle_text(rng: &mut Rng, text: &mut Vec<u8>) {
+    for _ in 0..=rng.below(2) {
+        let byte = if rng.chance(1, 8) {
+            rng.draw() as u8
+        } else {
+            rng.pick(b"0123456789,-\n\nBPT")
+        };
+        let at = rng.below(text.len() + 1);
+        match rng.below(3) {
+            0 => text.insert(at, byte),
+            1 if at < text.len() => text[at] = byte,
+            2 if at < text.len() => {
+                text.remove(at);
+            }
+            _ => text.push(byte),
+        }
+    }
+}
+
+/// Numbers changed, put in or taken out anywhere.
+pub fn mangle_list(rng: &mut Rng, list: &mut Vec<i32>) {
+    for _ in 0..=rng.below(2) {
+        let number = match rng.below(5) {
+            0 => rng.draw() as i32,
+            1 => rng.pick(&[0, -1, 33, 65_535, 65_536, 1_000_000, 1_000_001, -1_000_001]),
+            _ => rng.between(0, 9) as i32,
+        };
+        let at = rng.below(list.len() + 1);
+        match rng.below(3) {
+            0 => list.insert(at, number),
+            1 if at < list.len() => list[at] = number,
+            2 if at < list.len() => {
+                list.remove(at);
+            }
+            _ => list.push(number),
+        }
+    }
+}
+
+/// A count of places for a list that needs so many: enough, or (when wanted and possible) short.
+pub fn places(rng: &mut Rng, needed: usize, short: bool) -> usize {
+    if short && needed > 0 {
+        match rng.below(3) {
+            0 => needed - 1,
+            1 => 0,
+            _ => rng.below(needed),
+        }
+    } else {
+        needed + rng.pick(&[0, 0, 1, 5, 1000])
+    }
+}
+
+// ------------------------------------------------------------------------------- directions
+
+/// A good direction in the shape's words; now and then with a word of no entry.
+pub fn direction(rng: &mut Rng, shape: &Shape) -> Vec<u16> {
+    let n = 1 + rng.below(shape.max_direction);
+    let mut words: Vec<u16> = (0..n).map(|_| shape.source(rng) as u16).collect();
+    if rng.chance(1, 12) {
+        words[rng.below(n)] = rng.pick(&[7_777, 1, 65_535]);
+    }
+    words
+}
+
+/// A good direction made of the source words of the book's own phrases (so that long phrases
+/// fit), at most the shape's longest.
+pub fn direction_from(rng: &mut Rng, shape: &Shape, book: &Book) -> Vec<u16> {
+    if book.phrases.is_empty() {
+        return direction(rng, shape);
+    }
+    let n = 1 + rng.below(shape.max_direction);
+    let mut words = Vec::new();
+    while words.len() < n {
+        words.extend_from_slice(book.phrases[rng.below(book.phrases.len())].source());
+    }
+    words.truncate(n.max(1));
+    words
+}
+
+/// A direction as numbers of which 9 and 10 say `code` (0: good).
+pub fn direction_saying(rng: &mut Rng, shape: &Shape, code: u8) -> Vec<u16> {
+    let mut words = direction(rng, shape);
+    match code {
+        9 => {
+            if rng.chance(1, 2) {
+                words.clear();
+            } else {
+                let n = rng.pick(&[33, 34, 64, 100]);
+                words = (0..n).map(|_| shape.source(rng) as u16).collect();
+                if rng.chance(1, 4) {
+                    words[rng.below(n)] = 0;
+                }
+            }
+        }
+        10 => {
+            let at = rng.below(words.len());
+            words[at] = 0;
+        }
+        _ => {}
+    }
+    words
+}
+
+/// A direction as text.
+pub fn direction_text(words: &[u16]) -> Vec<u8> {
+    let row: Vec<String> = words.iter().map(|w| w.to_string()).collect();
+    (row.join(",") + "\n").into_bytes()
+}
+
+/// A direction's text of which 8, 9 and 10 say `code` (0: good).
+pub fn direction_text_saying(rng: &mut Rng, shape: &Shape, code: u8) -> Vec<u8> {
+    let mut words: Vec<i64> = direction(rng, shape)
+        .into_iter()
+        .map(|w| w as i64)
+        .collect();
+    if code == 9 || (code == 8 && rng.chance(1, 8)) {
+        let n = rng.pick(&[33, 34, 64, 100]);
+        words = (0..n).map(|_| shape.source(rng)).collect();
+    }
+    if code == 10 || (code != 0 && rng.chance(1, 4)) {
+        let at = rng.below(words.len());
+        words[at] = rng.pick(&[0, -1, 65_536, 9_999_999, -9_999_999]);
+    }
+    let row: Vec<String> = words.iter().map(|w| w.to_string()).collect();
+    let mut out = (row.join(",") + "\n").into_bytes();
+    if code == 8 {
+        let starts: Vec<usize> = (0..out.len())
+            .filter(|&k| k == 0 || out[k - 1] == b',')
+            .collect();
+        let at = rng.pick(&starts);
+        let end = out.len() - 1;
+        let mut insert = |at: usize, what: &[u8]| {
+            out.splice(at..at, what.iter().copied());
+        };
+        match rng.below(10) {
+            0 => out.clear(),
+            1 => {
+                out.pop();
+            }
+            2 => out = b"\n".to_vec(),
+            3 => insert(end, b"\n"),
+            4 => insert(end, b","),
+            5 => insert(
+                at,
+                rng.pick(&[&b"0"[..], b"-0", b"--", b"+", b" ", b",", b"\n", b"B,"]),
+            ),
+            6 => insert(at, b"12345678,"),
+            7 => insert(end, b"\r"),
+            8 => insert(end + 1, b"11\n"),
+            _ => insert(
+                end,
+                rng.pick(&[&b"-"[..], b".", b"a", b"\xff", b"\x00", b"- "]),
+            ),
+        }
+    }
+    out
+}
+
+// ----------------------------------------------------------------------------- for decoding
+
+/// A width that 11 allows.
+pub fn width(rng: &mut Rng, shape: &Shape) -> i64 {
+    match rng.below(8) {
+        0 | 1 => -1,
+        2 => 0,
+        3 => rng.pick(&[596_480_000, 596_479_999, i64::MAX, i64::MAX - 1]),
+        _ if shape.ties => rng.between(0, 4),
+        4 => rng.between(0, 2_000_000),
+        _ => rng.between(0, 4_000),
+    }
+}
+
+/// A width that 11 refuses.
+pub fn bad_width(rng: &mut Rng) -> i64 {
+    match rng.below(3) {
+        0 => -2,
+        1 => rng.pick(&[i64::MIN, i64::MIN + 1, -10, -596_480_000]),
+        _ => -2 - rng.below(1_000_000) as i64,
+    }
+}
+
+/// Places for steps and words, for n words: enough, or one of them short.
+pub fn lengths(rng: &mut Rng, n: usize, short: bool) -> (usize, usize) {
+    let (s, w) = match (short, rng.below(3)) {
+        (false, _) => (false, false),
+        (_, 0) => (true, false),
+        (_, 1) => (false, true),
+        _ => (true, true),
+    };
+    (places(rng, n, s), places(rng, 8 * n, w))
+}
+
+/// Numbers in the store, for so many states entered: near the border, or anything.
+pub fn store_len(rng: &mut Rng, states: usize) -> usize {
+    match rng.below(8) {
+        0 => 8 * states,
+        1 => 8 * states + 7,
+        2 => 8 * states - 1,
+        3 => 8 * (states - 1),
+        4 => rng.below(8 * states + 1),
+        5 => rng.below(9),
+        6 => 8 * states + 8 * rng.below(100),
+        _ => 8 * 512,
+    }
+}
+
+/// A whole call of decode.
+#[derive(Clone, Debug)]
+pub struct DecodeCase {
+    pub book: Vec<i32>,
+    pub direction: Vec<u16>,
+    pub width: i64,
+    pub steps_len: usize,
+    pub words_len: usize,
+    pub store_len: usize,
+}
+
+/// A call of decode, now and then with things that 2 to 6 and 9 to 13 refuse (one or more).
+pub fn decode_case(rng: &mut Rng, shape: &Shape) -> DecodeCase {
+    let mut book = match rng.below(30) {
+        0 => {
+            let code = rng.pick(&[2, 3, 4, 6]);
+            book_saying(rng, shape, code)
+        }
+        1 => {
+            let mut list = book_saying(rng, shape, 0);
+            mangle_list(rng, &mut list);
+            list
+        }
+        _ => book_saying(rng, shape, 0),
+    };
+    if rng.chance(1, 400) {
+        book = book_saying(rng, shape, 5);
+    }
+    let direction = match (rng.below(20), crate::check_book(&book)) {
+        (0, _) => {
+            let code = rng.pick(&[9, 10]);
+            direction_saying(rng, shape, code)
+        }
+        (1..=10, Ok(checked)) => direction_from(rng, shape, &checked),
+        _ => direction(rng, shape),
+    };
+    let width = if rng.chance(1, 25) {
+        bad_width(rng)
+    } else {
+        width(rng, shape)
+    };
+    let short = rng.chance(1, 25);
+    let (steps_len, words_len) = lengths(rng, direction.len(), short);
+    let store_len = match rng.below(5) {
+        0 => {
+            let states = 1 + rng.below(40);
+            store_len(rng, states)
+        }
+        _ => 8 * 4096,
+    };
+    DecodeCase {
+        book,
+        direction,
+        width,
+        steps_len,
+        words_len,
+        store_len,
+    }
+}
+
+// -------------------------------------------------------------------------------- proposals
+
+/// A valid list of steps, by a random walk with a few tries.
+pub fn valid_proposal(rng: &mut Rng, book: &Book, direction: &[u16]) -> Option<Vec<Step>> {
+    let fitting = plain::every_fitting_step(book, direction);
+    for _ in 0..8 {
+        let steps = random_walk(rng, book, direction, &fitting);
+        if plain::valid(book, direction, &steps) {
+            return Some(steps);
+        }
+    }
+    None
+}
+
+fn random_walk(rng: &mut Rng, book: &Book, direction: &[u16], fitting: &[Step]) -> Vec<Step> {
+    let mut covered = vec![false; direction.len()];
+    let mut steps: Vec<Step> = Vec::new();
+    loop {
+        let r = steps.last().map_or(0, |s| s.1 as i64);
+        let open: Vec<Step> = fitting
+            .iter()
+            .copied()
+            .filter(|s| {
+                (s.0..=s.1).all(|p| !covered[p as usize - 1])
+                    && (r + 1 - s.0 as i64).abs() <= book.d as i64
+            })
+            .collect();
+        if open.is_empty() {
+            return steps;
+        }
+        let step = rng.pick(&open);
+        for p in step.0..=step.1 {
+            covered[p as usize - 1] = true;
+        }
+        steps.push(step);
+    }
+}
+
+/// A proposed list of which 16 to 19 say `code` (0: valid); None when none was found.
+pub fn proposal_saying(
+    rng: &mut Rng,
+    book: &Book,
+    direction: &[u16],
+    code: u8,
+) -> Option<Vec<Step>> {
+    let n = direction.len() as u16;
+    let count = book.phrases.len() as u16;
+    let fitting = plain::every_fitting_step(book, direction);
+    if code == 0 {
+        return valid_proposal(rng, book, direction);
+    }
+    let mut steps = random_walk(rng, book, direction, &fitting);
+    if code == 19 {
+        // A proper beginning of a walk, or a walk that could not be ended.
+        let covered: usize = steps.iter().map(|s| (s.1 - s.0 + 1) as usize).sum();
+        if covered == direction.len() {
+            let keep = rng.below(steps.len());
+            steps.truncate(keep);
+        }
+        return Some(steps);
+    }
+    // A good beginning, then the bad step, then anything.
+    let keep = rng.below(steps.len() + 1);
+    let tail: Vec<Step> = steps.split_off(keep);
+    let r = steps.last().map_or(0, |s| s.1 as i64);
+    let mut covered = vec![false; n as usize];
+    for s in &steps {
+        for p in s.0..=s.1 {
+            covered[p as usize - 1] = true;
+        }
+    }
+    let far = |s: &Step| (r + 1 - s.0 as i64).abs() > book.d as i64;
+    let bad = match code {
+        16 => {
+            let mut found = None;
+            for _ in 0..20 {
+                let (first, last) = (rng.between(0, n as i64 + 1), rng.between(0, n as i64 + 1));
+                let entry = rng.between(0, count as i64 + 1);
+                let mut step = (first as u16, last as u16, entry as u16);
+                match rng.below(10) {
+                    0 => step.0 = rng.pick(&[0, n + 1, u16::MAX]),
+                    1 => step.1 = rng.pick(&[0, n + 1, 32, 33, u16::MAX]),
+                    2 => step.2 = rng.pick(&[0, count + 1, 4096, 4097, u16::MAX]),
+                    3 if !fitting.is_empty() => {
+                        step = rng.pick(&fitting);
+                        match rng.below(4) {
+                            0 => step.1 += 1,
+                            1 => step.1 -= 1,
+                            2 => step.0 -= 1,
+                            _ => step.0 += 1,
+                        }
+                    }
+                    _ => {}
+                }
+                if !plain::step_fits(book, direction, step) {
+                    found = Some(step);
+                    break;
+                }
+            }
+            found?
+        }
+        17 => {
+            let over: Vec<Step> = fitting
+                .iter()
+                .copied()
+                .filter(|s| (s.0..=s.1).any(|p| covered[p as usize - 1]))
+                .collect();
+            if over.is_empty() {
+                return None;
+            }
+            rng.pick(&over)
+        }
+        18 => {
+            let over: Vec<Step> = fitting
+                .iter()
+                .copied()
+                .filter(|s| (s.0..=s.1).all(|p| !covered[p as usize - 1]) && far(s))
+                .collect();
+            if over.is_empty() {
+                return None;
+            }
+            rng.pick(&over)
+        }
+        _ => panic!("no such proposal"),
+    };
+    steps.push(bad);
+    if rng.chance(1, 2) {
+        steps.extend(tail);
+    }
+    Some(steps)
+}
+
+/// Any list of steps at all: fitting ones, near misses and nonsense.
+pub fn any_proposal(rng: &mut Rng, book: &Book, direction: &[u16]) -> Vec<Step> {
+    let n = direction.len() as i64;
+    let fitting = plain::every_fitting_step(book, direction);
+    let size = rng.below(direction.len() + 3);
+    let mut steps = Vec::new();
+    for _ in 0..size {
+        if !fitting.is_empty() && rng.chance(19, 20) {
+            steps.push(rng.pick(&fitting));
+        } else {
+            let entry = rng.between(0, book.phrases.len() as i64 + 1) as u16;
+            steps.push((
+                rng.between(0, n + 1) as u16,
+                rng.between(0, n + 1) as u16,
+                entry,
+            ));
+        }
+    }
+    steps
+}
+
+// ---------------------------------------------------------------------------- for timing
+
+/// A book as large as allowed (4,096 P and 8,192 T lines) and a direction of n words that many
+/// of its phrases fit: about `per_word` entries of one word for each source word, the others of
+/// 2 to 4 source words.
+pub fn large_case(rng: &mut Rng, n: usize, d: i64, per_word: usize) -> (Vec<i32>, Vec<u16>) {
+    let source_words = 200;
+    let target_words = 120;
+    let mut all: Lines = vec![vec![1, d, -100, -4_000]];
+    for k in 0..source_words {
+        for _ in 0..per_word {
+            let b = rng.between(1, 2);
+            let mut line = vec![2, 1, b, 1_000 + k];
+            line.extend((0..b).map(|_| 2_000 + rng.between(0, target_words - 1)));
+            line.push(rng.between(-3_000, -100));
+            all.push(line);
+        }
+    }
+    while all.len() < 1 + 4_096 {
+        let (a, b) = (rng.between(2, 4), rng.between(1, 4));
+        let mut line = vec![2, a, b];
+        line.extend((0..a).map(|_| 1_000 + rng.between(0, source_words - 1)));
+        line.extend((0..b).map(|_| 2_000 + rng.between(0, target_words - 1)));
+        line.push(rng.between(-4_000, -100));
+        all.push(line);
+    }
+    let mut direction: Vec<u16> = Vec::new();
+    while direction.len() < n {
+        let line = &all[1 + rng.below(4_096)];
+        direction.extend(line[3..3 + line[1] as usize].iter().map(|&x| x as u16));
+    }
+    direction.truncate(n);
+    let mut seen = HashSet::new();
+    while seen.len() < 8_192 {
+        let mut word = || 2_000 + rng.between(0, target_words - 1);
+        let (mut v, mut w, y) = (word(), word(), word());
+        if rng.chance(1, 20) {
+            v = 0;
+            if rng.chance(1, 3) {
+                w = 0;
+            }
+        }
+        if seen.insert((v, w, y)) {
+            all.push(vec![3, v, w, y, rng.between(-3_000, -100)]);
+        }
+    }
+    (loaded(&all), direction)
+}

@@ -1,0 +1,613 @@
+//! A second decoder, written from the papers alone (01-scope.md, and Collins' notes 000, 001,
+//! 002). Standard library only. Refusals are the question numbers of 01.
+
+use std::collections::HashMap;
+
+pub mod campaign;
+pub mod gen;
+pub mod plain;
+
+pub use plain::all_derivations;
+
+/// A step: first, last, entry; all counted from 1.
+pub type Step = (u16, u16, u16);
+
+pub const MAX_PHRASES: usize = 4096;
+pub const MAX_TRIPLES: usize = 8192;
+pub const MAX_DIRECTION: usize = 32;
+/// Twice the bound on scores: with this width nothing is pruned.
+pub const WIDEST: i64 = 596_480_000;
+
+/// One P line.
+#[derive(Clone, Debug, PartialEq, Eq)]
+pub struct Phrase {
+    source: [u16; 8],
+    source_len: u8,
+    target: [u16; 8],
+    target_len: u8,
+    /// Score g.
+    pub g: i32,
+    /// Where the target words begin in the loaded book.
+    pub target_at: usize,
+}
+
+impl Phrase {
+    pub fn source(&self) -> &[u16] {
+        &self.source[..self.source_len as usize]
+    }
+    pub fn target(&self) -> &[u16] {
+        &self.target[..self.target_len as usize]
+    }
+}
+
+/// One T line.
+#[derive(Clone, Copy, Debug, PartialEq, Eq)]
+pub struct Triple {
+    pub v: u16,
+    pub w: u16,
+    pub y: u16,
+    pub s: i32,
+}
+
+/// A checked book.
+#[derive(Clone, Debug)]
+pub struct Book {
+    pub d: i32,
+    pub eta: i32,
+    pub u: i32,
+    /// Entry k is at k - 1.
+    pub phrases: Vec<Phrase>,
+    pub triples: Vec<Triple>,
+    /// The same triples by their words, for the search.
+    scores: HashMap<(u16, u16, u16), i32>,
+}
+
+impl Book {
+    fn triple_score(&self, v: u16, w: u16, y: u16) -> i64 {
+        match self.scores.get(&(v, w, y)) {
+            Some(&s) => s as i64,
+            None => self.u as i64,
+        }
+    }
+}
+
+/// The answer of a decoding.
+#[derive(Clone, Debug, PartialEq, Eq)]
+pub struct Answer {
+    pub score: i64,
+    pub states: usize,
+    pub steps: Vec<Step>,
+    pub words: Vec<u16>,
+}
+
+// ---------------------------------------------------------------------------------------------
+// Reading
+// ---------------------------------------------------------------------------------------------
+
+/// One decimal number of 1 to 7 digits, no needless leading zero, a minus only before 1 to 9.
+fn number(field: &[u8]) -> Option<i32> {
+    let (minus, digits) = match field.split_first() {
+        Some((b'-', rest)) => (true, rest),
+        _ => (false, field),
+    };
+    if digits.is_empty() || digits.len() > 7 || !digits.iter().all(|c| c.is_ascii_digit()) {
+        return None;
+    }
+    if digits[0] == b'0' && (minus || digits.len() > 1) {
+        return None;
+    }
+    let mut value = 0i32;
+    for &c in digits {
+        value = value * 10 + (c - b'0') as i32;
+    }
+    Some(if minus { -value } else { value })
+}
+
+/// Questions 1 to 7 of a book's text; the numbers loaded.
+pub fn read_book(text: &[u8], places: usize) -> Result<Vec<i32>, u8> {
+    // 1, of the whole text.
+    let Some((&b'\n', body)) = text.split_last() else {
+        return Err(1);
+    };
+    let mut lines: Vec<(u8, Vec<i32>)> = Vec::new();
+    for line in body.split(|&c| c == b'\n') {
+        let [letter @ (b'B' | b'P' | b'T'), b',', fields @ ..] = line else {
+            return Err(1);
+        };
+        let mut numbers = Vec::new();
+        for field in fields.split(|&c| c == b',') {
+            numbers.push(number(field).ok_or(1)?);
+        }
+        lines.push((*letter, numbers));
+    }
+    // 2, of every line.
+    for (letter, numbers) in &lines {
+        let fields = match letter {
+            b'B' => 3,
+            b'T' => 4,
+            _ => {
+                if numbers.len() < 2
+                    || !(1..=8).contains(&numbers[0])
+                    || !(1..=8).contains(&numbers[1])
+                {
+                    return Err(2);
+                }
+                numbers[0] as usize + numbers[1] as usize + 3
+            }
+        };
+        if numbers.len() != fields {
+            return Err(2);
+        }
+    }
+    let mut loaded = Vec::new();
+    for (letter, numbers) in &lines {
+        loaded.push(match letter {
+            b'B' => 1,
+            b'P' => 2,
+            _ => 3,
+        });
+        loaded.extend_from_slice(numbers);
+    }
+    // 3 to 6 (2 holds by now).
+    check_book(&loaded)?;
+    if loaded.len() > places {
+        return Err(7);
+    }
+    Ok(loaded)
+}
+
+/// Questions 2 to 6 of a loaded list.
+pub fn check_book(book: &[i32]) -> Result<Book, u8> {
+    // 2.
+    let mut lines: Vec<&[i32]> = Vec::new();
+    let mut rest = book;
+    while let Some(&kind) = rest.first() {
+        let size = match kind {
+            1 => 4,
+            2 => {
+                if rest.len() < 3 || !(1..=8).contains(&rest[1]) || !(1..=8).contains(&rest[2]) {
+                    return Err(2);
+                }
+                rest[1] as usize + rest[2] as usize + 4
+            }
+            3 => 5,
+            _ => return Err(2),
+        };
+        if rest.len() < size {
+            return Err(2);
+        }
+        let (line, after) = rest.split_at(size);
+        lines.push(line);
+        rest = after;
+    }
+    // 3.
+    if lines.is_empty() || lines[0][0] != 1 || lines[1..].iter().any(|line| line[0] == 1) {
+        return Err(3);
+    }
+    // 4.
+    let score = -1_000_000..=1_000_000;
+    let word = 1..=65_535;
+    let word_or_start = 0..=65_535;
+    for line in &lines {
+        let good = match line[0] {
+            1 => {
+                (0..=32).contains(&line[1])
+                    && (-10_000..=10_000).contains(&line[2])
+                    && score.contains(&line[3])
+            }
+            2 => {
+                let g = line.len() - 1;
+                line[3..g].iter().all(|x| word.contains(x)) && score.contains(&line[g])
+            }
+            _ => {
+                word_or_start.contains(&line[1])
+                    && word_or_start.contains(&line[2])
+                    && word.contains(&line[3])
+                    && score.contains(&line[4])
+            }
+        };
+        if !good {
+            return Err(4);
+        }
+    }
+    // 5.
+    let phrase_count = lines.iter().filter(|line| line[0] == 2).count();
+    let triple_count = lines.iter().filter(|line| line[0] == 3).count();
+    if phrase_count > MAX_PHRASES || triple_count > MAX_TRIPLES {
+        return Err(5);
+    }
+    // 6, while the records are made.
+    let mut phrases = Vec::with_capacity(phrase_count);
+    let mut triples = Vec::with_capacity(triple_count);
+    let mut scores = HashMap::with_capacity(triple_count);
+    let mut at = 0;
+    for line in &lines {
+        match line[0] {
+            2 => {
+                let (a, b) = (line[1] as usize, line[2] as usize);
+                let mut phrase = Phrase {
+                    source: [0; 8],
+                    source_len: a as u8,
+                    target: [0; 8],
+                    target_len: b as u8,
+                    g: line[3 + a + b],
+                    target_at: at + 3 + a,
+                };
+                for (to, &from) in phrase.source.iter_mut().zip(&line[3..3 + a]) {
+                    *to = from as u16;
+                }
+                for (to, &from) in phrase.target.iter_mut().zip(&line[3 + a..3 + a + b]) {
+                    *to = from as u16;
+                }
+                phrases.push(phrase);
+            }
+            3 => {
+                let triple = Triple {
+                    v: line[1] as u16,
+                    w: line[2] as u16,
+                    y: line[3] as u16,
+                    s: line[4],
+                };
+                if scores
+                    .insert((triple.v, triple.w, triple.y), triple.s)
+                    .is_some()
+                {
+                    return Err(6);
+                }
+                triples.push(triple);
+            }
+            _ => {}
+        }
+        at += line.len();
+    }
+    Ok(Book {
+        d: book[1],
+        eta: book[2],
+        u: book[3],
+        phrases,
+        triples,
+        scores,
+    })
+}
+
+/// Start (from 0) and size of an entry's target words in the loaded list; the empty part at the
+/// list's end for a number that is no entry, or a list that 2 to 6 refuse.
+pub fn target_part(book: &[i32], entry: usize) -> (usize, usize) {
+    if let Ok(checked) = check_book(book) {
+        if let Some(phrase) = entry.checked_sub(1).and_then(|k| checked.phrases.get(k)) {
+            return (phrase.target_at, phrase.target().len());
+        }
+    }
+    (book.len(), 0)
+}
+
+/// Questions 8, 9, 10, 7 of a direction's text; the words.
+pub fn read_direction(text: &[u8], places: usize) -> Result<Vec<u16>, u8> {
+    let Some((&b'\n', line)) = text.split_last() else {
+        return Err(8);
+    };
+    let mut numbers = Vec::new();
+    for field in line.split(|&c| c == b',') {
+        numbers.push(number(field).ok_or(8)?);
+    }
+    if numbers.len() > MAX_DIRECTION {
+        return Err(9);
+    }
+    if numbers.iter().any(|x| !(1..=65_535).contains(x)) {
+        return Err(10);
+    }
+    if numbers.len() > places {
+        return Err(7);
+    }
+    Ok(numbers.iter().map(|&x| x as u16).collect())
+}
+
+/// Questions 9 and 10 of a direction as numbers.
+pub fn check_direction(direction: &[u16]) -> Result<(), u8> {
+    if direction.is_empty() || direction.len() > MAX_DIRECTION {
+        return Err(9);
+    }
+    if direction.contains(&0) {
+        return Err(10);
+    }
+    Ok(())
+}
+
+// ---------------------------------------------------------------------------------------------
+// Scoring a proposed list
+// ---------------------------------------------------------------------------------------------
+
+/// Questions 2 to 6, 9, 10, then 16 to 19; the score of the proposed steps.
+pub fn score(book: &[i32], direction: &[u16], steps: &[Step]) -> Result<i64, u8> {
+    let book = check_book(book)?;
+    check_direction(direction)?;
+    let n = direction.len();
+    let mut covered = 0u32;
+    let mut r = 0i64;
+    let (mut v, mut w) = (0u16, 0u16);
+    let mut total = 0i64;
+    for &(first, last, entry) in steps {
+        let (first, last, entry) = (first as usize, last as usize, entry as usize);
+        if entry < 1 || entry > book.phrases.len() || first < 1 || last < first || last > n {
+            return Err(16);
+        }
+        let phrase = &book.phrases[entry - 1];
+        if direction[first - 1..last] != *phrase.source() {
+            return Err(16);
+        }
+        let mask = span_mask(first, last);
+        if covered & mask != 0 {
+            return Err(17);
+        }
+        let jump = (r + 1 - first as i64).abs();
+        if jump > book.d as i64 {
+            return Err(18);
+        }
+        covered |= mask;
+        r = last as i64;
+        total += phrase.g as i64 + book.eta as i64 * jump;
+        for &y in phrase.target() {
+            total += book.triple_score(v, w, y);
+            (v, w) = (w, y);
+        }
+    }
+    if covered != span_mask(1, n) {
+        return Err(19);
+    }
+    Ok(total)
+}
+
+/// Bits first - 1 to last - 1; 1 <= first <= last <= 32.
+fn span_mask(first: usize, last: usize) -> u32 {
+    (u32::MAX >> (32 - (last - first + 1))) << (first - 1)
+}
+
+// ---------------------------------------------------------------------------------------------
+// Decoding
+// ---------------------------------------------------------------------------------------------
+
+/// What makes two states equal: the last two words, the covered positions, r.
+type Key = (u16, u16, u32, u8);
+
+/// A state as it stands in its set, with the way back.
+#[derive(Clone, Copy)]
+struct State {
+    key: Key,
+    score: i64,
+    from_set: u8,
+    from_at: u32,
+    step: Step,
+}
+
+/// A phrase at a place where it fits.
+struct Fit<'a> {
+    first: usize,
+    last: usize,
+    mask: u32,
+    entry: u16,
+    target: &'a [u16],
+    /// g and the scores of the triples that lie inside the target words.
+    inner: i64,
+}
+
+/// Set i of the notes: the states in the order they came, and where each key stands.
+#[derive(Default)]
+struct Set {
+    states: Vec<State>,
+    at: HashMap<Key, u32>,
+}
+
+/// Questions 2 to 6, 9 to 15. The lists are lent by their lengths alone: places for steps, places
+/// for words, and 64-bit numbers in the store.
+pub fn decode(
+    book: &[i32],
+    direction: &[u16],
+    width: i64,
+    steps_len: usize,
+    words_len: usize,
+    store_len: usize,
+) -> Result<Answer, u8> {
+    let book = check_book(book)?;
+    check_direction(direction)?;
+    if width < -1 {
+        return Err(11);
+    }
+    if steps_len < direction.len() || words_len < 8 * direction.len() {
+        return Err(12);
+    }
+    search(&book, direction, width, store_len / 8)
+}
+
+/// The notes' procedure by sets, for a checked book and direction (questions 13 to 15).
+pub fn search(book: &Book, direction: &[u16], width: i64, room: usize) -> Result<Answer, u8> {
+    let n = direction.len();
+    let (d, eta) = (book.d as usize, book.eta as i64);
+    let fits = fitting_phrases(book, direction);
+
+    let mut sets: Vec<Set> = (0..=n).map(|_| Set::default()).collect();
+    let start = State {
+        key: (0, 0, 0, 0),
+        score: 0,
+        from_set: 0,
+        from_at: 0,
+        step: (0, 0, 0),
+    };
+    sets[0].states.push(start);
+    let mut entered = 1usize;
+    if entered > room {
+        return Err(13);
+    }
+
+    for i in 0..n {
+        // No later step adds to set i, so it may be taken out while the later ones grow.
+        let states = std::mem::take(&mut sets[i].states);
+        sets[i].at = HashMap::new();
+        let best = states.iter().map(|q| q.score).max().unwrap_or(0);
+        for (from_at, q) in states.iter().enumerate() {
+            // Scores differ by no more than 596,480,000, so this side cannot overflow.
+            if width >= 0 && best - q.score > width {
+                continue;
+            }
+            let (v, w, covered, r) = q.key;
+            let next = r as usize + 1;
+            let low = next.saturating_sub(d).max(1);
+            let high = (next + d).min(n);
+            for first in low..=high {
+                if covered & (1 << (first - 1)) != 0 {
+                    continue;
+                }
+                let jump = first.abs_diff(next) as i64;
+                for fit in &fits[first - 1] {
+                    if covered & fit.mask != 0 {
+                        continue;
+                    }
+                    let mut score = q.score + fit.inner + eta * jump;
+                    let (e1, e2);
+                    score += book.triple_score(v, w, fit.target[0]);
+                    if let [.., y1, y2] = *fit.target {
+                        score += book.triple_score(w, fit.target[0], fit.target[1]);
+                        (e1, e2) = (y1, y2);
+                    } else {
+                        (e1, e2) = (w, fit.target[0]);
+                    }
+                    let key = (e1, e2, covered | fit.mask, fit.last as u8);
+                    let state = State {
+                        key,
+                        score,
+                        from_set: i as u8,
+                        from_at: from_at as u32,
+                        step: (fit.first as u16, fit.last as u16, fit.entry),
+                    };
+                    let set = &mut sets[key.2.count_ones() as usize];
+                    match set.at.entry(key) {
+                        std::collections::hash_map::Entry::Occupied(at) => {
+                            let old = &mut set.states[*at.get() as usize];
+                            if score > old.score {
+                                *old = state;
+                            }
+                        }
+                        std::collections::hash_map::Entry::Vacant(at) => {
+                            entered += 1;
+                            if entered > room {
+                                return Err(13);
+                            }
+                            at.insert(set.states.len() as u32);
+                            set.states.push(state);
+                        }
+                    }
+                }
+            }
+        }
+        sets[i].states = states;
+    }
+
+    let mut best: Option<&State> = None;
+    for q in &sets[n].states {
+        if best.is_none_or(|b| q.score > b.score) {
+            best = Some(q);
+        }
+    }
+    let Some(mut q) = best else {
+        return Err(if width == -1 { 14 } else { 15 });
+    };
+    let score = q.score;
+    let mut steps = Vec::new();
+    while q.key.2 != 0 {
+        steps.push(q.step);
+        q = &sets[q.from_set as usize].states[q.from_at as usize];
+    }
+    steps.reverse();
+    let words = steps
+        .iter()
+        .flat_map(|&(_, _, entry)| book.phrases[entry as usize - 1].target().iter().copied())
+        .collect();
+    Ok(Answer {
+        score,
+        states: entered,
+        steps,
+        words,
+    })
+}
+
+/// For each first position (from 0), the phrases that fit there.
+fn fitting_phrases<'a>(book: &'a Book, direction: &[u16]) -> Vec<Vec<Fit<'a>>> {
+    let n = direction.len();
+    let mut places: HashMap<u16, Vec<usize>> = HashMap::new();
+    for (k, &word) in direction.iter().enumerate() {
+        places.entry(word).or_default().push(k);
+    }
+    let mut fits: Vec<Vec<Fit>> = (0..n).map(|_| Vec::new()).collect();
+    for (k, phrase) in book.phrases.iter().enumerate() {
+        let source = phrase.source();
+        let Some(starts) = places.get(&source[0]) else {
+            continue;
+        };
+        let mut inner = None;
+        for &start in starts {
+            let end = start + source.len();
+            if end > n || direction[start..end] != *source {
+                continue;
+            }
+            let inner = *inner.get_or_insert_with(|| {
+                let within: i64 = phrase
+                    .target()
+                    .windows(3)
+                    .map(|t| book.triple_score(t[0], t[1], t[2]))
+                    .sum();
+                within + phrase.g as i64
+            });
+            fits[start].push(Fit {
+                first: start + 1,
+                last: end,
+                mask: span_mask(start + 1, end),
+                entry: k as u16 + 1,
+                target: phrase.target(),
+                inner,
+            });
+        }
+    }
+    fits
+}
+
+// ---------------------------------------------------------------------------------------------
+// Replies as text
+// ---------------------------------------------------------------------------------------------
+
+/// The lines A, S and W, or R, each ended by byte 10.
+pub fn reply(result: &Result<Answer, u8>) -> Vec<u8> {
+    let mut out = String::new();
+    match result {
+        Err(number) => out.push_str(&format!("R,{number}\n")),
+        Ok(answer) => {
+            out.push_str(&format!(
+                "A,{},{},{},{}\n",
+                answer.score,
+                answer.steps.len(),
+                answer.words.len(),
+                answer.states
+            ));
+            for (first, last, entry) in &answer.steps {
+                out.push_str(&format!("S,{first},{last},{entry}\n"));
+            }
+            out.push('W');
+            for word in &answer.words {
+                out.push_str(&format!(",{word}"));
+            }
+            out.push('\n');
+        }
+    }
+    out.into_bytes()
+}
+
+/// What the rendering program prints for these bytes of book.txt and of standard input.
+pub fn render(book_text: &[u8], direction_text: &[u8]) -> Vec<u8> {
+    if book_text.len() > 8192 || direction_text.len() > 512 {
+        return reply(&Err(7));
+    }
+    let result = (|| {
+        let book = read_book(book_text, usize::MAX)?;
+        let direction = read_direction(direction_text, usize::MAX)?;
+        decode(&book, &direction, -1, usize::MAX, usize::MAX, 8 * 512)
+    })();
+    reply(&result)
+}

@@ -1,0 +1,447 @@
+//! The same matters as plainly as the paper puts them, for checking: nothing here is shared with
+//! the search by sets but the book's record types.
+
+use crate::{check_book, check_direction, Book, Step};
+use std::collections::{BTreeSet, VecDeque};
+
+/// Score of a triple, by looking through the T lines.
+pub fn triple(book: &Book, v: u16, w: u16, y: u16) -> i64 {
+    for t in &book.triples {
+        if t.v == v && t.w == w && t.y == y {
+            return t.s as i64;
+        }
+    }
+    book.u as i64
+}
+
+/// Does the step fit?
+pub fn step_fits(book: &Book, direction: &[u16], step: Step) -> bool {
+    let (first, last, entry) = (step.0 as usize, step.1 as usize, step.2 as usize);
+    if entry == 0 || entry > book.phrases.len() {
+        return false;
+    }
+    let source = book.phrases[entry - 1].source();
+    if first == 0 || last > direction.len() || first + source.len() != last + 1 {
+        return false;
+    }
+    (0..source.len()).all(|k| direction[first - 1 + k] == source[k])
+}
+
+/// Jump of step k (from 0) of a list.
+pub fn jump(steps: &[Step], k: usize) -> i64 {
+    let r = if k == 0 { 0 } else { steps[k - 1].1 as i64 };
+    (r + 1 - steps[k].0 as i64).abs()
+}
+
+/// The three conditions of a valid derivation.
+pub fn valid(book: &Book, direction: &[u16], steps: &[Step]) -> bool {
+    let each_fits = steps.iter().all(|&step| step_fits(book, direction, step));
+    let once = (1..=direction.len()).all(|position| {
+        steps
+            .iter()
+            .filter(|s| s.0 as usize <= position && position <= s.1 as usize)
+            .count()
+            == 1
+    });
+    let jumps = (0..steps.len()).all(|k| jump(steps, k) <= book.d as i64);
+    each_fits && once && jumps
+}
+
+/// The target words of a list of steps.
+pub fn words_of(book: &Book, steps: &[Step]) -> Vec<u16> {
+    let mut words = Vec::new();
+    for step in steps {
+        for &y in book.phrases[step.2 as usize - 1].target() {
+            words.push(y);
+        }
+    }
+    words
+}
+
+/// The score of a derivation, by its definition.
+pub fn score_of(book: &Book, steps: &[Step]) -> i64 {
+    let mut total = 0;
+    for step in steps {
+        total += book.phrases[step.2 as usize - 1].g as i64;
+    }
+    for k in 0..steps.len() {
+        total += book.eta as i64 * jump(steps, k);
+    }
+    let mut row = vec![0, 0];
+    row.extend(words_of(book, steps));
+    for k in 2..row.len() {
+        total += triple(book, row[k - 2], row[k - 1], row[k]);
+    }
+    total
+}
+
+/// Every step that fits at all.
+pub fn every_fitting_step(book: &Book, direction: &[u16]) -> Vec<Step> {
+    let mut steps = Vec::new();
+    for first in 1..=direction.len() as u16 {
+        for last in first..=direction.len() as u16 {
+            for entry in 1..=book.phrases.len() as u16 {
+                if step_fits(book, direction, (first, last, entry)) {
+                    steps.push((first, last, entry));
+                }
+            }
+        }
+    }
+    steps
+}
+
+/// Every valid derivation with its score, for short directions.
+#[allow(clippy::type_complexity)]
+pub fn all_derivations(book: &[i32], direction: &[u16]) -> Result<Vec<(Vec<Step>, i64)>, u8> {
+    let book = check_book(book)?;
+    check_direction(direction)?;
+    let mut all = Vec::new();
+    walk_derivations(&book, direction, &mut |steps, score| {
+        all.push((steps.to_vec(), score));
+        true
+    });
+    Ok(all)
+}
+
+/// The same, shown one by one; the visitor says whether to go on. False when it was stopped.
+pub fn walk_derivations(
+    book: &Book,
+    direction: &[u16],
+    visit: &mut dyn FnMut(&[Step], i64) -> bool,
+) -> bool {
+    fn go(
+        book: &Book,
+        fitting: &[Step],
+        covered: &mut Vec<bool>,
+        steps: &mut Vec<Step>,
+        visit: &mut dyn FnMut(&[Step], i64) -> bool,
+    ) -> bool {
+        if covered.iter().all(|&c| c) {
+            return visit(steps, score_of(book, steps));
+        }
+        let r = steps.last().map_or(0, |s| s.1 as i64);
+        for &step in fitting {
+            let (first, last) = (step.0 as usize, step.1 as usize);
+            if covered[first - 1..last].iter().any(|&c| c) {
+                continue;
+            }
+            if (r + 1 - first as i64).abs() > book.d as i64 {
+                continue;
+            }
+            covered[first - 1..last].fill(true);
+            steps.push(step);
+            let on = go(book, fitting, covered, steps, visit);
+            steps.pop();
+            covered[first - 1..last].fill(false);
+            if !on {
+                return false;
+            }
+        }
+        true
+    }
+    let fitting = every_fitting_step(book, direction);
+    go(
+        book,
+        &fitting,
+        &mut vec![false; direction.len()],
+        &mut Vec::new(),
+        visit,
+    )
+}
+
+/// A key in the plain walks: the last two words, each position covered or not, r.
+pub type PlainKey = ([u16; 2], Vec<bool>, usize);
+
+fn next_key(book: &Book, key: &PlainKey, step: Step) -> PlainKey {
+    let mut row = vec![key.0[0], key.0[1]];
+    row.extend_from_slice(book.phrases[step.2 as usize - 1].target());
+    let mut covered = key.1.clone();
+    covered[step.0 as usize - 1..step.1 as usize].fill(true);
+    (
+        [row[row.len() - 2], row[row.len() - 1]],
+        covered,
+        step.1 as usize,
+    )
+}
+
+fn next_score(book: &Book, key: &PlainKey, score: i64, step: Step) -> i64 {
+    let mut row = vec![key.0[0], key.0[1]];
+    row.extend_from_slice(book.phrases[step.2 as usize - 1].target());
+    let mut total = score + book.phrases[step.2 as usize - 1].g as i64;
+    total += book.eta as i64 * (key.2 as i64 + 1 - step.0 as i64).abs();
+    for k in 2..row.len() {
+        total += triple(book, row[k - 2], row[k - 1], row[k]);
+    }
+    total
+}
+
+fn may_extend(book: &Book, key: &PlainKey, step: Step) -> bool {
+    (step.0..=step.1).all(|position| !key.1[position as usize - 1])
+        && (key.2 as i64 + 1 - step.0 as i64).abs() <= book.d as i64
+}
+
+/// The keys that the transitions can reach, by a breadth-first walk; None past `most`.
+pub fn reachable(book: &Book, direction: &[u16], most: usize) -> Option<BTreeSet<PlainKey>> {
+    let fitting = every_fitting_step(book, direction);
+    let start: PlainKey = ([0, 0], vec![false; direction.len()], 0);
+    let mut seen = BTreeSet::from([start.clone()]);
+    let mut queue = VecDeque::from([start]);
+    while let Some(key) = queue.pop_front() {
+        for &step in &fitting {
+            if may_extend(book, &key, step) {
+                let next = next_key(book, &key, step);
+                if seen.insert(next.clone()) {
+                    if seen.len() > most {
+                        return None;
+                    }
+                    queue.push_back(next);
+                }
+            }
+        }
+    }
+    Some(seen)
+}
+
+/// The search by sets in its plainest form (each set a list, equality by looking through it):
+/// the states entered and the best score of set n, if any. Width None is pruning off.
+pub fn by_lists(book: &Book, direction: &[u16], width: Option<i64>) -> (usize, Option<i64>) {
+    let n = direction.len();
+    let fitting = every_fitting_step(book, direction);
+    let mut sets: Vec<Vec<(PlainKey, i64)>> = vec![Vec::new(); n + 1];
+    sets[0].push((([0, 0], vec![false; n], 0), 0));
+    for i in 0..n {
+        let set = sets[i].clone();
+        let Some(best) = set.iter().map(|q| q.1).max() else {
+            continue;
+        };
+        for (key, score) in &set {
+            if let Some(beta) = width {
+                if (*score as i128) < best as i128 - beta as i128 {
+                    continue;
+                }
+            }
+            for &step in &fitting {
+                if !may_extend(book, key, step) {
+                    continue;
+                }
+                let new_key = next_key(book, key, step);
+                let new_score = next_score(book, key, *score, step);
+                let count = new_key.1.iter().filter(|&&c| c).count();
+                match sets[count].iter_mut().find(|q| q.0 == new_key) {
+                    Some(old) => old.1 = old.1.max(new_score),
+                    None => sets[count].push((new_key, new_score)),
+                }
+            }
+        }
+    }
+    (
+        sets.iter().map(Vec::len).sum(),
+        sets[n].iter().map(|q| q.1).max(),
+    )
+}
+
+// ------------------------------------------------------------------------ verdicts on reading
+
+type PlainLine = (u8, Vec<i64>);
+
+/// The text by an automaton, byte for byte: its lines, or None where question 1 says no.
+fn lines_of_text(text: &[u8], with_letters: bool) -> Option<Vec<PlainLine>> {
+    #[derive(Clone, Copy)]
+    enum At {
+        LineStart,
+        Comma,
+        NumberStart,
+        Minus,
+        Zero,
+        Digits(usize),
+    }
+    let mut at = At::LineStart;
+    let mut lines: Vec<PlainLine> = Vec::new();
+    let (mut sign, mut value) = (1i64, 0i64);
+    for &byte in text {
+        // A direction's line has no letter: it starts with a number.
+        if let (At::LineStart, false) = (at, with_letters) {
+            lines.push((b'D', Vec::new()));
+            at = At::NumberStart;
+        }
+        at = match (at, byte) {
+            (At::LineStart, b'B' | b'P' | b'T') => {
+                lines.push((byte, Vec::new()));
+                At::Comma
+            }
+            (At::Comma, b',') => {
+                (sign, value) = (1, 0);
+                At::NumberStart
+            }
+            (At::NumberStart, b'-') => {
+                sign = -1;
+                At::Minus
+            }
+            (At::NumberStart, b'0') => At::Zero,
+            (At::NumberStart | At::Minus, b'1'..=b'9') => {
+                value = (byte - 48) as i64;
+                At::Digits(1)
+            }
+            (At::Digits(k), b'0'..=b'9') if k < 7 => {
+                value = value * 10 + (byte - 48) as i64;
+                At::Digits(k + 1)
+            }
+            (At::Zero | At::Digits(_), b',' | b'\n') => {
+                lines.last_mut()?.1.push(sign * value);
+                (sign, value) = (1, 0);
+                if byte == b',' {
+                    At::NumberStart
+                } else {
+                    At::LineStart
+                }
+            }
+            _ => return None,
+        };
+    }
+    match at {
+        At::LineStart if !lines.is_empty() => Some(lines),
+        _ => None,
+    }
+}
+
+/// Has a line the fields of its kind?
+fn good_fields(line: &PlainLine) -> bool {
+    let size = line.1.len() as i64;
+    match line.0 {
+        b'B' => size == 3,
+        b'T' => size == 4,
+        _ => {
+            size >= 2
+                && line.1[0] >= 1
+                && line.1[0] <= 8
+                && line.1[1] >= 1
+                && line.1[1] <= 8
+                && size == line.1[0] + line.1[1] + 3
+        }
+    }
+}
+
+/// Questions 3 to 6 of lines whose fields are right; 0 when all say yes.
+fn later_verdict(lines: &[PlainLine]) -> u8 {
+    let kinds: Vec<u8> = lines.iter().map(|line| line.0).collect();
+    if kinds.first() != Some(&b'B') || kinds.iter().filter(|&&k| k == b'B').count() != 1 {
+        return 3;
+    }
+    for (kind, numbers) in lines {
+        for (k, &x) in numbers.iter().enumerate() {
+            let last = k + 1 == numbers.len();
+            let (low, high) = match (kind, k, last) {
+                (b'B', 0, _) => (0, 32),
+                (b'B', 1, _) => (-10_000, 10_000),
+                (b'P', 0 | 1, _) => (1, 8),
+                (_, _, true) => (-1_000_000, 1_000_000),
+                (b'T', 0 | 1, _) => (0, 65_535),
+                _ => (1, 65_535),
+            };
+            if x < low || x > high {
+                return 4;
+            }
+        }
+    }
+    if kinds.iter().filter(|&&k| k == b'P').count() > 4096
+        || kinds.iter().filter(|&&k| k == b'T').count() > 8192
+    {
+        return 5;
+    }
+    let mut triples: Vec<&[i64]> = lines
+        .iter()
+        .filter(|line| line.0 == b'T')
+        .map(|line| &line.1[..3])
+        .collect();
+    triples.sort();
+    if triples.windows(2).any(|pair| pair[0] == pair[1]) {
+        return 6;
+    }
+    0
+}
+
+/// What 1 to 7 say of a book's text: the number, or 0; and how many numbers are loaded.
+pub fn book_text_verdict(text: &[u8], places: usize) -> (u8, usize) {
+    let Some(lines) = lines_of_text(text, true) else {
+        return (1, 0);
+    };
+    if !lines.iter().all(good_fields) {
+        return (2, 0);
+    }
+    let needed = lines.iter().map(|line| line.1.len() + 1).sum();
+    match later_verdict(&lines) {
+        0 if needed > places => (7, 0),
+        0 => (0, needed),
+        code => (code, 0),
+    }
+}
+
+/// What 2 to 6 say of a loaded list.
+pub fn loaded_verdict(list: &[i32]) -> u8 {
+    let mut lines: Vec<PlainLine> = Vec::new();
+    let mut at = 0;
+    while at < list.len() {
+        let get = |k: usize| list.get(at + k).map(|&x| x as i64);
+        let (letter, size) = match list[at] {
+            1 => (b'B', 3),
+            3 => (b'T', 4),
+            2 => match (get(1), get(2)) {
+                (Some(a @ 1..=8), Some(b @ 1..=8)) => (b'P', (a + b + 3) as usize),
+                _ => return 2,
+            },
+            _ => return 2,
+        };
+        let mut numbers = Vec::new();
+        for k in 1..=size {
+            match get(k) {
+                Some(x) => numbers.push(x),
+                None => return 2,
+            }
+        }
+        lines.push((letter, numbers));
+        at += size + 1;
+    }
+    later_verdict(&lines)
+}
+
+/// What 8, 9, 10, 7 say of a direction's text; and how many words are filled in.
+pub fn direction_text_verdict(text: &[u8], places: usize) -> (u8, usize) {
+    let Some(lines) = lines_of_text(text, false) else {
+        return (8, 0);
+    };
+    if lines.len() != 1 {
+        return (8, 0);
+    }
+    let words = &lines[0].1;
+    if words.is_empty() || words.len() > 32 {
+        return (9, 0);
+    }
+    if words.iter().any(|w| !(1..=65_535).contains(w)) {
+        return (10, 0);
+    }
+    if words.len() > places {
+        return (7, 0);
+    }
+    (0, words.len())
+}
+
+/// What 16 to 19 say of a proposed list, from the definitions; 0 when it is valid.
+pub fn proposal_verdict(book: &Book, direction: &[u16], steps: &[Step]) -> u8 {
+    for k in 0..steps.len() {
+        let step = steps[k];
+        if !step_fits(book, direction, step) {
+            return 16;
+        }
+        if steps[..k].iter().any(|s| s.0 <= step.1 && step.0 <= s.1) {
+            return 17;
+        }
+        if jump(steps, k) > book.d as i64 {
+            return 18;
+        }
+    }
+    if valid(book, direction, steps) {
+        0
+    } else {
+        19
+    }
+}

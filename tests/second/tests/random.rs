@@ -1,0 +1,51 @@
+//! Random inputs, good and broken: 4 x 12,500 rounds, each a good input searched, listed and
+//! walked, and some forty damaged or bordering ones. The tally is printed with --nocapture.
+
+use second::campaign;
+
+fn rounds(seed: u64) {
+    let tally = campaign::run(seed, 12_500);
+    println!("seed {seed}\n{tally}");
+    assert!(tally.met["good inputs searched and listed"] >= 12_500);
+    let refusals = tally.refusals();
+    for code in 1..=19 {
+        assert!(refusals[&code] > 100, "refusal {code} met too seldom");
+    }
+    assert!(tally.met["good inputs with several best derivations"] > 1000);
+    assert!(tally.met["widths that left states out"] > 1000);
+    assert!(tally.met["widths that lost the best derivation"] > 100);
+    assert!(tally.met["widths that emptied the last set"] > 100);
+}
+
+#[test]
+fn seed_1001() {
+    rounds(1001);
+}
+
+#[test]
+fn seed_1002() {
+    rounds(1002);
+}
+
+#[test]
+fn seed_1003() {
+    rounds(1003);
+}
+
+#[test]
+fn seed_1004() {
+    rounds(1004);
+}
+
+#[test]
+fn generator_is_deterministic() {
+    let mut one = second::gen::Rng::new(5);
+    let mut two = second::gen::Rng::new(5);
+    for _ in 0..50 {
+        let s1 = second::gen::Shape::small(&mut one);
+        let s2 = second::gen::Shape::small(&mut two);
+        let c1 = second::gen::decode_case(&mut one, &s1);
+        let c2 = second::gen::decode_case(&mut two, &s2);
+        assert_eq!(format!("{c1:?}"), format!("{c2:?}"));
+    }
+}
