@@ -1,4 +1,4 @@
-// Decoding on plain numbers, with all that a search needs in local arrays: about 560 KB of stack.
+// Decoding on plain numbers, with all that a search needs in local arrays: about 450 KB of stack.
 use decoder::Core;
 use decoder::Job;
 use decoder::decode;
