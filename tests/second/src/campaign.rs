@@ -473,14 +473,7 @@ fn reading_round(rng: &mut Rng, shape: &Shape, tally: &mut Tally, large: bool) {
 /// plain walks.
 fn mixed_round(rng: &mut Rng, shape: &Shape, tally: &mut Tally) {
     let case = gen::decode_case(rng, shape);
-    let result = decode(
-        &case.book,
-        &case.direction,
-        case.width,
-        case.steps_len,
-        case.words_len,
-        case.store_len,
-    );
+    let result = case.answer();
     tally.reply("decode, anything", &result);
     let n = case.direction.len();
     let expected = (|| {

@@ -1,7 +1,7 @@
 //! Deterministic random inputs: books as lines, as loaded lists and as text, directions, widths,
 //! list lengths and proposals; good ones, and ones damaged so that a given question refuses them.
 
-use crate::{plain, Book, Step};
+use crate::{decode, plain, Answer, Book, Step};
 use std::collections::HashSet;
 
 /// SplitMix64.
@@ -503,15 +503,20 @@ pub fn mangle_text(rng: &mut Rng, text: &mut Vec<u8>) {
         } else {
             rng.pick(b"0123456789,-\n\nBPT")
         };
-        let at = rng.below(text.len() + 1);
-        match rng.below(3) {
-            0 => text.insert(at, byte),
-            1 if at < text.len() => text[at] = byte,
-            2 if at < text.len() => {
-                text.remove(at);
-            }
-            _ => text.push(byte),
+        change_anywhere(rng, text, byte);
+    }
+}
+
+/// One element put in, changed or taken out at any place.
+fn change_anywhere<T>(rng: &mut Rng, row: &mut Vec<T>, new: T) {
+    let at = rng.below(row.len() + 1);
+    match rng.below(3) {
+        0 => row.insert(at, new),
+        1 if at < row.len() => row[at] = new,
+        2 if at < row.len() => {
+            row.remove(at);
         }
+        _ => row.push(new),
     }
 }
 
@@ -523,15 +528,7 @@ pub fn mangle_list(rng: &mut Rng, list: &mut Vec<i32>) {
             1 => rng.pick(&[0, -1, 33, 65_535, 65_536, 1_000_000, 1_000_001, -1_000_001]),
             _ => rng.between(0, 9) as i32,
         };
-        let at = rng.below(list.len() + 1);
-        match rng.below(3) {
-            0 => list.insert(at, number),
-            1 if at < list.len() => list[at] = number,
-            2 if at < list.len() => {
-                list.remove(at);
-            }
-            _ => list.push(number),
-        }
+        change_anywhere(rng, list, number);
     }
 }
 
@@ -711,6 +708,20 @@ pub struct DecodeCase {
     pub steps_len: usize,
     pub words_len: usize,
     pub store_len: usize,
+}
+
+impl DecodeCase {
+    /// What the call answers.
+    pub fn answer(&self) -> Result<Answer, u8> {
+        decode(
+            &self.book,
+            &self.direction,
+            self.width,
+            self.steps_len,
+            self.words_len,
+            self.store_len,
+        )
+    }
 }
 
 /// A call of decode, now and then with things that 2 to 6 and 9 to 13 refuse (one or more).

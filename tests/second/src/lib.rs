@@ -80,6 +80,14 @@ pub struct Answer {
     pub words: Vec<u16>,
 }
 
+impl Answer {
+    /// The A line: score, steps, words, states.
+    pub fn counts(&self) -> String {
+        let (steps, words) = (self.steps.len(), self.words.len());
+        format!("A,{},{steps},{words},{}", self.score, self.states)
+    }
+}
+
 // ---------------------------------------------------------------------------------------------
 // Reading
 // ---------------------------------------------------------------------------------------------
@@ -579,13 +587,7 @@ pub fn reply(result: &Result<Answer, u8>) -> Vec<u8> {
     match result {
         Err(number) => out.push_str(&format!("R,{number}\n")),
         Ok(answer) => {
-            out.push_str(&format!(
-                "A,{},{},{},{}\n",
-                answer.score,
-                answer.steps.len(),
-                answer.words.len(),
-                answer.states
-            ));
+            out.push_str(&format!("{}\n", answer.counts()));
             for (first, last, entry) in &answer.steps {
                 out.push_str(&format!("S,{first},{last},{entry}\n"));
             }

@@ -197,14 +197,7 @@ fn emit(seed: u64, count: usize, shape: &str) -> String {
             _ => Shape::small(&mut rng),
         };
         let case = gen::decode_case(&mut rng, &shape);
-        let result = decode(
-            &case.book,
-            &case.direction,
-            case.width,
-            case.steps_len,
-            case.words_len,
-            case.store_len,
-        );
+        let result = case.answer();
         let text = String::from_utf8(reply(&result)).unwrap();
         out.push_str(&format!(
             "{}|{}|{}|{}|{}|{}|{}\n",

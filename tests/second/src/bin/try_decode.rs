@@ -17,13 +17,7 @@ mod show {
         let (text, zero) = match second::decode(book, direction, width, room, w, s) {
             Err(code) => (format!("R,{code}"), code > 12),
             Ok(a) => {
-                let mut t = format!(
-                    "A,{},{},{},{} S",
-                    a.score,
-                    a.steps.len(),
-                    a.words.len(),
-                    a.states
-                );
+                let mut t = a.counts() + " S";
                 for (f, l, e) in &a.steps {
                     t += &format!(",{f},{l},{e}");
                 }
