@@ -98,7 +98,3 @@ target-refused loaded entry f = rw f
 pub passed-whole : (loaded : List ℤ) → eqb (bookRefusal loaded) 0 ≡ true → all isWhole (loadedLines loaded) ≡ true
 unfolding bookRefusal
 passed-whole loaded t = lines-passed (loadedLines loaded) (eqb-true (bookRefusal loaded) 0 t) .whole
-
-pub end-part : (loaded : List ℤ) → take (length loaded - length loaded) (drop (length loaded) loaded) ≡ partOf (record { start = length loaded; size = 0 }) loaded
-unfolding partOf
-end-part loaded = let z : length loaded - length loaded ≡ 0 = omega arith in rw z

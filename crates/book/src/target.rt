@@ -1,4 +1,4 @@
-// An entry's target words, as a part of the loaded list itself.
+// Where an entry's target words stand in the loaded list.
 use crate::line;
 use crate::loaded;
 ghost use mathlib.Core.Path.{_≡_};
@@ -7,8 +7,8 @@ ghost use Prim.Native.Nat.{_-_, _≤_};
 ghost use lib.Dec.{eqb};
 ghost use lib.ListN.{length, drop};
 ghost use Rattle.laws.specs.Lists.{all};
-ghost use Rattle.notes.specs.Book.{isP, isWhole, loadedLines, targetPartFrom, bookRefusal, targetPart};
-ghost use Rattle.book.specs.Target.{IsPart, IsPartOf};
+ghost use Rattle.notes.specs.Book.{isP, isWhole, loadedLines, targetPartFrom};
+ghost use Rattle.book.specs.Target.{IsPart};
 
 // A part of a list: where it starts, and how many numbers it has.
 pub struct Part {
@@ -60,28 +60,4 @@ pub fn find_target(book: &[i32], entry: usize) -> Part
         at += loaded::size_at(book, at);
     }
     Part { start: at, size: 0 }
-}
-
-// An entry's target words, in a list whose lines are all whole: the part of that list itself.
-pub fn target_of(book: &[i32], entry: usize) -> &[i32]
-    requires { ⌜ all isWhole (loadedLines (now book)) ≡ true ⌝ }
-    ensures { λ r. ⌜ IsPartOf (book .entry) r (targetPartFrom entry 0 (loadedLines (now (book .entry)))) ⌝ }
-{
-    let part = find_target(book, entry);
-    let start = part.start;
-    let end = start + part.size;
-    &book[start..end]
-}
-
-// An entry's target words as document 01 gives them, where it is known whether the list passes 2 to 6: the empty part at the
-// list's end where it does not.
-pub fn target_if(book: &[i32], entry: usize, passed: bool) -> &[i32]
-    requires { ⌜ passed ≡ eqb (bookRefusal (now book)) 0 ⌝ }
-    ensures { λ r. ⌜ IsPartOf (book .entry) r (targetPart (now (book .entry)) entry) ⌝ }
-{
-    if !passed {
-        let end = book.len();
-        return &book[end..];
-    }
-    target_of(book, entry)
 }

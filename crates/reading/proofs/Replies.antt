@@ -1,5 +1,5 @@
--- From the answer of a load to the reply of a check, and from a check that passed or refused to an entry's target words.
-use Prim.Native.Nat.{ℕ, _-_}
+-- From the answer of a load to the reply of a check.
+use Prim.Native.Nat.{ℕ}
 use native.Mathlib.Omega.{arith}
 use mathlib.Core.Path.{_≡_, sym}
 use mathlib.Core.Bool.{true, false}
@@ -7,16 +7,13 @@ use mathlib.Core.List.{List}
 use borrow.Author.Tests.{eq-eqb, ne-eqb}
 use lib.Dec.{eqb}
 use lib.IntN.{ℤ}
-use lib.ListN.{length, take, drop}
-use Rattle.laws.specs.Lists.{all}
 use Rattle.notes.specs.Questions.{number}
-use Rattle.notes.specs.Book.{Book, isWhole, loadedLines, bookRefusal, targetPartFrom, targetPart, partOf}
+use Rattle.notes.specs.Book.{Book, bookRefusal}
 use Rattle.notes.specs.Reply.{reply, checkedReply, checkBook}
 use Rattle.notes.specs.declared.Checked.{Checked}
 use Rattle.notes.specs.declared.Checked.the-variants.{Passed, Refused as CheckRefused}
 use Rattle.notes.specs.declared.Refusal.{Refusal}
 use Rattle.notes.proofs.Chains.{reply-done, done-passes, refused-is}
-use Rattle.notes.proofs.Ranges.{lines-passed}
 use Rattle.reading.specs.Loaded.{Answered, refusalOf, replied}
 use Rattle.reading.specs.declared.load.Loaded.{Loaded}
 use Rattle.reading.specs.declared.load.Loaded.the-variants.{Book as Passes, Refused}
@@ -42,23 +39,3 @@ test-passed k e = sym (eq-eqb k 0 e)
 
 pub test-refused : (k : ℕ) (refusal : Refusal) → k ≡ number refusal → false ≡ eqb k 0
 test-refused k refusal e = let h = number-from refusal in sym (ne-eqb k 0 (λ z. omega arith))
-
--- ════ the target words
-
-module _ (loaded : List ℤ) (k : ℕ) where
-  pub whole-so : bookRefusal loaded ≡ 0 → all isWhole (loadedLines loaded) ≡ true
-  unfolding bookRefusal
-  whole-so e = lines-passed (loadedLines loaded) e .whole
-
-  pub part-passed : bookRefusal loaded ≡ 0 → targetPart loaded k ≡ targetPartFrom k 0 (loadedLines loaded)
-  unfolding targetPart
-  part-passed e = rw (eq-eqb (bookRefusal loaded) 0 e)
-
-  pub part-refused : eqb (bookRefusal loaded) 0 ≡ false → targetPart loaded k ≡ record { start = length loaded; size = 0 }
-  unfolding targetPart
-  part-refused e = rw e
-
-  -- the empty part at the list's end, as code takes it
-  pub part-empty : eqb (bookRefusal loaded) 0 ≡ false → take (length loaded - length loaded) (drop (length loaded) loaded) ≡ partOf (targetPart loaded k) loaded
-  unfolding partOf
-  part-empty e = let z : length loaded - length loaded ≡ 0 = omega arith in rw (z, part-refused e)

@@ -2,12 +2,13 @@
 use crate::load;
 use crate::load::Loaded;
 use book::target;
+use book::target::Part;
 use notes::Checked;
 ghost use mathlib.Core.Path.{_≡_};
 ghost use lib.Dec.{eqb};
 ghost use Rattle.notes.specs.Book.{bookRefusal, targetPart};
 ghost use Rattle.notes.specs.Reply.{checkedReply, checkBook};
-ghost use Rattle.book.specs.Target.{IsPartOf};
+ghost use Rattle.book.specs.Target.{IsPart, IsPartOf};
 ghost use Rattle.reading.specs.Loaded.{replied};
 
 // The answer without what a search needs.
@@ -41,14 +42,26 @@ fn passes(book: &[i32]) -> bool
     }
 }
 
-// The target words of an entry, counted from 1, as that part of the caller's list; for a number that is no entry, or a list
-// that 2 to 6 refuse, the empty part at the list's end.
+// Where the target words of an entry, counted from 1, stand in the list; for a number that is no entry, or a list that 2 to 6
+// refuse, the empty part at the list's end.
+pub fn target_part(book: &[i32], entry: usize) -> Part
+    ensures { λ r. ⌜ IsPart (now (book .entry)) r (targetPart (now (book .entry)) entry) ⌝ }
+{
+    if passes(book) {
+        return target::find_target(book, entry);
+    }
+    Part {
+        start: book.len(),
+        size: 0,
+    }
+}
+
+// The target words of an entry. Document 01's form: the sub-slice of the caller's book that holds them.
 pub fn target_words(book: &[i32], entry: usize) -> &[i32]
     ensures { λ r. ⌜ IsPartOf (book .entry) r (targetPart (now (book .entry)) entry) ⌝ }
 {
-    if passes(book) {
-        return target::target_of(book, entry);
-    }
-    let end = book.len();
-    &book[end..end]
+    let part = target_part(book, entry);
+    let start = part.start;
+    let end = start + part.size;
+    &book[start..end]
 }

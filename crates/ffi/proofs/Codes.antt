@@ -1,0 +1,93 @@
+-- A refusal's number is one of the nineteen, so it fits every type of the interface, and so does a count within a lent list.
+use Prim.Native.Nat.{ℕ, _≤_, _<_}
+use native.Mathlib.Omega.{arith}
+use mathlib.Core.Path.{_≡_, sym, _∙_}
+use mathlib.Core.List.{List}
+use borrow.Author.Tests.{leb-true}
+use lib.IntN.{ℤ, pos, negℤ, _-ℤ_, +ℤ-idl}
+use lib.ListN.{length, length-map}
+use mir.Syntax.{w32, w64}
+use mir.Val.{toZ, ofZ, SFits}
+use mir.ValLaws.{toZ-pos}
+use Rattle.laws.proofs.Bounds.{within-pos}
+use Rattle.laws.proofs.Got.{Got, nat, lit, sub, fits, kept}
+use Rattle.laws.proofs.Integers.{back-pos}
+use Rattle.notes.specs.Book.{isBookText, textLines, linesRefusal, loadedOf, readRefusal}
+use Rattle.notes.specs.Direction.{isDirectionText, directionNumbers, numbersRefusal, readDirectionRefusal, directionOf}
+use Rattle.notes.specs.Reply.{reply, readReply, readBook, readDirection}
+use Rattle.laws.specs.Integers.{natOf}
+use Rattle.notes.specs.declared.Read.{Read}
+use Rattle.notes.specs.declared.Read.the-variants.{Numbers, Refused}
+use Rattle.notes.proofs.Chains.{test-passes, rest-passes, done-passes, done-is}
+use Rattle.ffi.specs.Bounds.{Counted}
+use Rattle.notes.specs.Questions.{_unless_, number}
+use Rattle.notes.specs.declared.Refusal.{Refusal}
+use Rattle.notes.specs.declared.Refusal.the-variants.{BookText, LineFields, BLine, NumberRange, LineCount, RepeatedTriple, ListTooShort, DirectionText, WordCount, WordRange, Width, StepsOrWordsTooShort, StoreTooSmall, NoDerivation, LastSetEmpty, DoesNotFit, CoveredTwice, JumpTooLong, Uncovered}
+
+pub number-to : (refusal : Refusal) → number refusal ≤ 19
+number-to BookText = omega arith
+number-to LineFields = omega arith
+number-to BLine = omega arith
+number-to NumberRange = omega arith
+number-to LineCount = omega arith
+number-to RepeatedTriple = omega arith
+number-to ListTooShort = omega arith
+number-to DirectionText = omega arith
+number-to WordCount = omega arith
+number-to WordRange = omega arith
+number-to Width = omega arith
+number-to StepsOrWordsTooShort = omega arith
+number-to StoreTooSmall = omega arith
+number-to NoDerivation = omega arith
+number-to LastSetEmpty = omega arith
+number-to DoesNotFit = omega arith
+number-to CoveredTwice = omega arith
+number-to JumpTooLong = omega arith
+number-to Uncovered = omega arith
+
+-- a count as a signed number
+pub as64 : (n : ℕ) → n < 9_223_372_036_854_775_808 → toZ w64 n ≡ pos n
+as64 n h = toZ-pos w64 n h
+
+-- a code that was handed on
+pub code-back : (z : ℤ) (refusal : Refusal) → z ≡ pos (number refusal) → toZ w32 (ofZ w32 z) ≡ pos (number refusal)
+code-back z refusal e = back-pos w32 z (number refusal) e (let h = number-to refusal in omega arith)
+
+-- minus a refusal's number
+module _ (k : ℕ) (h : k ≤ 19) where
+  minus-got : Got 19 (pos 0 -ℤ toZ w64 k) (pos 0 -ℤ pos k)
+  minus-got = sub (lit {B = 0} (pos 0) (within-pos 0)) (nat w64 {n = k} {B = 19} (omega arith) h)
+
+  pub minus-fits : SFits w64 (pos 0 -ℤ toZ w64 k)
+  minus-fits = fits minus-got (omega arith)
+
+  pub minus-is : toZ w64 (ofZ w64 (pos 0 -ℤ toZ w64 k)) ≡ negℤ (pos k)
+  minus-is = kept w64 minus-got (omega arith) .is ∙ +ℤ-idl (negℤ (pos k))
+
+-- what was read is within the lent list
+pub counted : (r : Read) (k n places : ℕ) → readReply r ≡ reply k n → (k ≡ 0 → n ≤ places) → places < 9_223_372_036_854_775_808 → Counted r
+counted (Numbers m) k n places e f l =
+    let p = f (done-passes k n m (sym e)) in
+    let q = done-is k n m (sym e) in
+    omega arith
+counted (Refused refusal) k n places e f l = tt
+
+pub book-fits : (text : List ℕ) (places : ℕ) → readRefusal text places ≡ 0 → length (loadedOf text) ≤ places
+unfolding readRefusal
+book-fits text places e =
+    leb-true _ _ (test-passes 6 _ (rest-passes (linesRefusal (textLines text)) _ (rest-passes (1 unless isBookText text) _ e)))
+
+pub direction-fits : (text : List ℕ) (places : ℕ) → readDirectionRefusal text places ≡ 0 → length (directionOf text) ≤ places
+unfolding readDirectionRefusal directionOf
+direction-fits text places e =
+    let n : length (directionNumbers text) ≤ places = leb-true _ _ (test-passes 6 _ (rest-passes (numbersRefusal (directionNumbers text)) _ (rest-passes (8 unless isDirectionText text) _ e))) in
+    omega (arith, n, length-map (directionNumbers text) natOf)
+
+-- the replies of the two readers as chains of questions
+pub book-reply : (text : List ℕ) (places : ℕ) (r : Read) → readReply r ≡ readBook text places → readReply r ≡ reply (readRefusal text places) (length (loadedOf text))
+unfolding readBook
+book-reply text places r e = e
+
+pub direction-reply : (text : List ℕ) (places : ℕ) (r : Read) → readReply r ≡ readDirection text places → readReply r ≡ reply (readDirectionRefusal text places) (length (directionOf text))
+unfolding readDirection
+direction-reply text places r e = e

@@ -1,0 +1,161 @@
+// The calls for C and Rust (include/phrase.h). A lent list comes as a pointer and a length; whatever is handed in is answered.
+use notes::Checked;
+use notes::Decoded;
+use notes::Read;
+use notes::Refusal;
+use notes::Scored;
+
+mod report;
+mod steps;
+
+ghost use mathlib.Core.Path.{_≡_};
+ghost use lib.IntN.{pos};
+ghost use lib.ListN.{length};
+ghost use Rattle.notes.specs.Questions.{number};
+ghost use Rattle.notes.specs.Book.{bookRefusal, targetPart};
+ghost use Rattle.notes.specs.Reply.{readReply, readBook, readBookList, readDirection, readDirectionList, scoreProposal};
+ghost use Rattle.text.specs.Walk.{filledWith};
+ghost use Rattle.ffi.specs.Bounds.{Counted};
+ghost use Rattle.ffi.specs.Calls.{countOrRefusal, zeroOrRefusal, recordsIn, scoreReport, DecodesNumbers};
+
+// The refusal's number in document 01.
+fn number_of(refusal: Refusal) -> usize
+    ensures { λ r. ⌜ r ≡ number refusal ⌝ }
+{
+    match refusal {
+        Refusal::BookText => 1,
+        Refusal::LineFields => 2,
+        Refusal::BLine => 3,
+        Refusal::NumberRange => 4,
+        Refusal::LineCount => 5,
+        Refusal::RepeatedTriple => 6,
+        Refusal::ListTooShort => 7,
+        Refusal::DirectionText => 8,
+        Refusal::WordCount => 9,
+        Refusal::WordRange => 10,
+        Refusal::Width => 11,
+        Refusal::StepsOrWordsTooShort => 12,
+        Refusal::StoreTooSmall => 13,
+        Refusal::NoDerivation => 14,
+        Refusal::LastSetEmpty => 15,
+        Refusal::DoesNotFit => 16,
+        Refusal::CoveredTwice => 17,
+        Refusal::JumpTooLong => 18,
+        Refusal::Uncovered => 19,
+    }
+}
+
+// The refusal's number as C has it.
+fn code_of(refusal: Refusal) -> i32
+    ensures { λ r. ⌜ r ≡ pos (number refusal) ⌝ }
+{
+    number_of(refusal) as i32
+}
+
+// How many numbers were read, or minus the refusal.
+fn count_or_refusal(reply: Read) -> i64
+    requires { ⌜ Counted reply ⌝ }
+    ensures { λ r. ⌜ r ≡ countOrRefusal (readReply reply) ⌝ }
+{
+    match reply {
+        Read::Numbers(n) => n as i64,
+        Read::Refused(refusal) => 0 - number_of(refusal) as i64,
+    }
+}
+
+// Reads a book's text: how many numbers were written, or minus the refusal.
+#[no_mangle]
+pub extern "C" fn phrase_read_book(text: &[u8], book: &mut [i32]) -> i64
+    ensures { λ r. ⌜ r ≡ countOrRefusal (readBook (now (text .entry)) (length (now (book .entry)))) ⌝ }
+    ensures { λ _. ⌜ now (book .exit) ≡ readBookList (now (text .entry)) (now (book .entry)) ⌝ }
+{
+    let reply = reading::read::read_book(text, book);
+    count_or_refusal(reply)
+}
+
+// Reads a direction's text: how many words were written, or minus the refusal.
+#[no_mangle]
+pub extern "C" fn phrase_read_direction(text: &[u8], direction: &mut [u16]) -> i64
+    ensures { λ r. ⌜ r ≡ countOrRefusal (readDirection (now (text .entry)) (length (now (direction .entry)))) ⌝ }
+    ensures { λ _. ⌜ now (direction .exit) ≡ readDirectionList (now (text .entry)) (now (direction .entry)) ⌝ }
+{
+    let reply = direction::read_direction(text, direction);
+    count_or_refusal(reply)
+}
+
+// Asks questions 2 to 6 of a loaded book: 0, or the refusal.
+#[no_mangle]
+pub extern "C" fn phrase_check_book(book: &[i32]) -> i32
+    ensures { λ r. ⌜ r ≡ pos (bookRefusal (now (book .entry))) ⌝ }
+{
+    match reading::check::check_book(book) {
+        Checked::Passed => 0,
+        Checked::Refused(refusal) => code_of(refusal),
+    }
+}
+
+// Where an entry's target words start in the loaded book; the list's length where there are none.
+#[no_mangle]
+pub extern "C" fn phrase_target_start(book: &[i32], entry: usize) -> i64
+    ensures { λ r. ⌜ r ≡ pos (targetPart (now (book .entry)) entry .start) ⌝ }
+{
+    let part = reading::check::target_part(book, entry);
+    part.start as i64
+}
+
+// How many target words an entry has; 0 where it is none of the book.
+#[no_mangle]
+pub extern "C" fn phrase_target_count(book: &[i32], entry: usize) -> i64
+    ensures { λ r. ⌜ r ≡ pos (targetPart (now (book .entry)) entry .size) ⌝ }
+{
+    let part = reading::check::target_part(book, entry);
+    part.size as i64
+}
+
+// Scores a proposed list of steps: 0, or the refusal; the report is the score.
+#[no_mangle]
+pub extern "C" fn phrase_score(
+    book: &[i32],
+    direction: &[u16],
+    steps: &[u16],
+    report: &mut [i64],
+) -> i32
+    ensures { λ r. ⌜ r ≡ zeroOrRefusal (scoreProposal (now (book .entry)) (now (direction .entry)) (recordsIn (now (steps .entry)))) ⌝ }
+    ensures { λ _. ⌜ now (report .exit) ≡ filledWith (scoreReport (scoreProposal (now (book .entry)) (now (direction .entry)) (recordsIn (now (steps .entry))))) (now (report .entry)) ⌝ }
+{
+    let plain = steps::gather(steps);
+    match prepare::score_plain(book, direction, plain) {
+        Scored::Score(score) => {
+            report::put_score(report, score);
+            0
+        }
+        Scored::Refused(refusal) => code_of(refusal),
+    }
+}
+
+// Finds the best derivation: 0, or the refusal; the report is the score, and how many steps, words and states there are.
+#[no_mangle]
+pub extern "C" fn phrase_decode(
+    book: &[i32],
+    direction: &[u16],
+    width: i64,
+    steps: &mut [u16],
+    words: &mut [u16],
+    store: &mut [i64],
+    report: &mut [i64],
+) -> i32
+    ensures { λ r. ⌜ DecodesNumbers (now (book .entry)) (now (direction .entry)) width (now (steps .entry)) (now (steps .exit)) (now (words .entry)) (now (words .exit)) (now (store .entry)) (now (store .exit)) (now (report .entry)) (now (report .exit)) r ⌝ }
+{
+    let room = steps.len() / 3;
+    let core = phrase::plain::decode_plain(book, direction, width, room, words, store);
+    let plain = core.plain;
+    steps::put_all(steps, plain);
+    let reply = core.reply;
+    match reply {
+        Decoded::Done(a) => {
+            report::put_answer(report, a);
+            0
+        }
+        Decoded::Refused(refusal) => code_of(refusal),
+    }
+}
