@@ -4,18 +4,17 @@ use native.Mathlib.Nat.{pow-suc}
 use native.Mathlib.Omega.{arith}
 use native.Mathlib.Decide.{ℕ-discrete}
 use mathlib.Core.Path.{_≡_, refl, sym, _∙_, ap}
-use mathlib.Core.Logic.{_≢_}
-use mathlib.Core.Bool.{Bool, true, false, not, cond, _&&_, _||_}
-use mathlib.Core.List.{List, [], _∷_, Memᴰ·cast}
+use mathlib.Core.Bool.{Bool, true, false, not, _&&_, _||_}
+use mathlib.Core.List.{List, [], _∷_}
 use borrow.Author.Tests.{le-leb, lt-leb, leb-true, leb-false, eqb-true, eqb-false}
 use lib.Dec.{eqb, leb, leb·suc-suc}
 use lib.ListN.{length, getD, set, drop, drop-of-length-le, length-drop}
+use lib.Pow.{pow-add}
 use lib.Seq.{getD-set-same, getD-set-other, drop-nil}
 use Rattle.laws.specs.Bits.{bitsOf, one, ofBits, ones, apart, joined}
 use Rattle.laws.proofs.Tests.{by-test, both, both-of, is-false}
 use Rattle.laws.proofs.Bits.{bits-length, bits-next, bit-of, bitsOf-ofBits, ofBits-lt, add-lt, add-bits, ones-joined}
-use Rattle.laws.specs.Lists.{all, numbersFrom}
-use Rattle.laws.proofs.Lists.{drop-next, mem-numbers, all-mem}
+use Rattle.laws.proofs.Lists.{drop-next}
 use Rattle.notes.specs.Derivation.{covers}
 use Rattle.notes.specs.State.{isFree, cover}
 use Rattle.notes.specs.declared.Step.{Step}
@@ -278,15 +277,9 @@ cover-ones step bits a b c free =
     ∙ ones-joined bits (stepBits step 1 (length bits)) (sym (free-apart step 1 bits) ∙ free)
     ∙ ap (λ (k : ℕ). ones bits + k) (step-ones step 1 (length bits) a b (omega arith))
 
--- ════ the table of powers, by one test over the whole of it
+-- ════ powers of 2
 
-abbrev powers : List ℕ
-powers = 1 ∷ 2 ∷ 4 ∷ 8 ∷ 16 ∷ 32 ∷ 64 ∷ 128 ∷ 256 ∷ 512 ∷ 1024 ∷ 2048 ∷ 4096 ∷ 8192 ∷ 16384 ∷ 32768 ∷ 65536 ∷ 131072 ∷ 262144 ∷ 524288 ∷ 1048576 ∷ 2097152 ∷ 4194304 ∷ 8388608 ∷ 16777216 ∷ 33554432 ∷ 67108864 ∷ 134217728 ∷ 268435456 ∷ 536870912 ∷ 1073741824 ∷ 2147483648 ∷ 4294967296 ∷ []
-
-powers-test : all (λ i. eqb (getD powers i 0) (2 ^ i)) (numbersFrom 0 33) ≡ true
-powers-test = refl
-
-pub power-at : (i : ℕ) → i ≤ 32 → getD powers i 0 ≡ 2 ^ i
-power-at i h =
-    let z : i ≡ 0 + i = omega arith in
-    eqb-true _ _ (all-mem (λ k. eqb (getD powers k 0) (2 ^ k)) (numbersFrom 0 33) powers-test i (Memᴰ·cast z (mem-numbers 0 33 i (omega arith))))
+pub power-split : (i : ℕ) → 2 ^ (i % 6) * 2 ^ (6 * (i / 6)) ≡ 2 ^ i
+power-split i =
+    let e : i % 6 + 6 * (i / 6) ≡ i = omega arith in
+    sym (pow-add 2 (i % 6) (6 * (i / 6))) ∙ ap (λ (k : ℕ). 2 ^ k) e

@@ -61,48 +61,42 @@ pub fn is_free(runs: Runs, first: usize, last: usize) -> bool
     last + 1 - first <= long
 }
 
-// 2 to the power of each place.
-const POWERS: [u64; 33] = [
-    1,
-    2,
-    4,
-    8,
-    16,
-    32,
-    64,
-    128,
-    256,
-    512,
-    1024,
-    2048,
-    4096,
-    8192,
-    16384,
-    32768,
-    65536,
-    131072,
-    262144,
-    524288,
-    1048576,
-    2097152,
-    4194304,
-    8388608,
-    16777216,
-    33554432,
-    67108864,
-    134217728,
-    268435456,
-    536870912,
-    1073741824,
-    2147483648,
-    4294967296,
-];
+// 2 to the power of i. (A table would be copied onto the stack by every call.)
+fn low_power(i: usize) -> u64
+    requires { ⌜ i < 6 ⌝ }
+    ensures { λ r. ⌜ r ≡ 2 ^ i ⌝ }
+{
+    match i {
+        0 => 1,
+        1 => 2,
+        2 => 4,
+        3 => 8,
+        4 => 16,
+        _ => 32,
+    }
+}
 
+// 64 to the power of i.
+fn high_power(i: usize) -> u64
+    requires { ⌜ i < 6 ⌝ }
+    ensures { λ r. ⌜ r ≡ 2 ^ (6 * i) ⌝ }
+{
+    match i {
+        0 => 1,
+        1 => 64,
+        2 => 4096,
+        3 => 262144,
+        4 => 16777216,
+        _ => 1073741824,
+    }
+}
+
+// 2 to the power of i.
 fn power(i: usize) -> u64
     requires { ⌜ i ≤ 32 ⌝ }
     ensures { λ r. ⌜ r ≡ 2 ^ i ⌝ }
 {
-    POWERS[i]
+    low_power(i % 6) * high_power(i / 6)
 }
 
 // The number with the positions first to last covered too, which are free in it.

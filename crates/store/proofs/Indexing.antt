@@ -4,8 +4,8 @@ use mathlib.Core.Path.{_≡_, refl, sym, _∙_, ap, subst}
 use mathlib.Core.Bool.{Bool, true, false}
 use mathlib.Core.Logic.{_⊎_, inl, inr, ⊎-elim}
 use mathlib.Core.List.{List}
-use Prim.Native.Nat.{ℕ, zero, suc, _+_, _*_, _/_, _%_, _-_, _<_, _≤_}
-use native.Mathlib.Nat.{mod-lt}
+use Prim.Native.Nat.{ℕ, zero, suc, _+_, _*_, _/_, _%_, _-_, _<_, _≤_, min}
+use native.Mathlib.Nat.{mod-lt, mul-comm, mul-lt-mul-of-pos-right, div-lt-iff-lt-mul}
 use native.Mathlib.Decide.{ℕ-discrete}
 use native.Mathlib.Omega.{arith}
 use lib.Dec.{eqb, ltb}
@@ -18,14 +18,22 @@ use Rattle.laws.specs.Index.{Chained, inBucket, latest}
 use Rattle.laws.proofs.Index.{latest-none, latest-lt, latest-at, chained-none, chained-same, chained-more, walk-start, walk-step, walk-less, walk-out}
 use Rattle.laws.proofs.Tests.{both, by-test}
 use Rattle.notes.specs.declared.State.{State}
-use Rattle.store.specs.Store.{placeAt, headAt, linkAt, bucketOf, Way, Unseen, Indexed, Spare, Relinked, Put, isSame, Located, surpasses, Met, Zeroed, Clearing}
+use Rattle.store.specs.Store.{placeAt, headAt, linkAt, wordsOf, bucketOf, Way, Unseen, Indexed, Spare, Relinked, Put, isSame, Located, surpasses, Met, Zeroed, Clearing}
 use Rattle.store.specs.declared.Place.{Place}
 use Rattle.store.specs.declared.Found.the-variants.{At}
 use Rattle.store.proofs.Writes.{places-same}
 
+-- a part of 2 ^ 32 as a part of m
+scale-lt : (k m : ℕ) → k < 4294967296 → 0 < m → k * m / 4294967296 < m
+scale-lt k m l h =
+    div-lt-iff-lt-mul {k = 4294967296} {x = k * m} {y = m} (omega arith) .1
+    (let a : k * m < 4294967296 * m = mul-lt-mul-of-pos-right l h in let b : 4294967296 * m ≡ m * 4294967296 = mul-comm 4294967296 m in omega arith)
+
 pub bucket-lt : (n : ℕ) (x : State) → 0 < n → bucketOf n x < n
 unfolding bucketOf
-bucket-lt n x h = mod-lt _ h
+bucket-lt n x h =
+    let s = scale-lt ((wordsOf x * 2654435769 % 4294967296 + x .covered * 2246822519 % 4294967296 + x .r * 3266489917 % 4294967296) % 4294967296) (min n 2147483648) (mod-lt _ (omega arith)) (omega arith) in
+    omega (arith, s)
 
 -- equal states agree in all but the score
 pub record Agree (a b : State) : Type 0 where

@@ -4,7 +4,7 @@ use mathlib.Core.Path.{_≡_}
 use mathlib.Core.Bool.{Bool, true, false, _&&_}
 use mathlib.Core.Logic.{_⊎_}
 use mathlib.Core.List.{List}
-use Prim.Native.Nat.{ℕ, _+_, _*_, _/_, _%_, _<_, _≤_, _^_}
+use Prim.Native.Nat.{ℕ, _+_, _*_, _/_, _%_, _<_, _≤_, _^_, min}
 use lib.Dec.{eqb}
 use lib.IntN.{ℤ, pos}
 use lib.Signed.{ltZ}
@@ -83,7 +83,8 @@ pub record Relinked (old new : List ℤ) (k h : ℕ) : Type 0 where
 
 -- a state's bucket, of n: by all but its score
 unfoldable pub bucketOf : ℕ → State → ℕ
-bucketOf n x = (wordsOf x * 506952113 + x .covered * 99338871 + x .r * 313700925) / 1048576 % n
+bucketOf n x =
+    (wordsOf x * 2654435769 % 4294967296 + x .covered * 2246822519 % 4294967296 + x .r * 3266489917 % 4294967296) % 4294967296 * min n 2147483648 / 4294967296
 
 -- the states of the first places are indexed, and the store is zero but for what they need
 pub record Indexed (st : List ℤ) (count : ℕ) : Type 0 where

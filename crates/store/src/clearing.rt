@@ -33,8 +33,8 @@ fn clear_place(store: &mut [i64], k: usize, h: usize)
     store[8 * h + 6] = 0;
 }
 
-// Every number of the store is zero, where it holds count states and nothing else: only what they used is written, so a large store with few states is cleared in no time.
-pub fn clear_used(store: &mut [i64], count: usize)
+// Every number of the store is zero, where it holds count states and nothing else: only what they used is written.
+fn clear_places(store: &mut [i64], count: usize)
     requires { ⌜ Indexed (now store) count ⌝ }
     ensures { λ _. ⌜ now (store .exit) ≡ replicate (length (now (store .entry))) (pos 0) ⌝ }
 {
@@ -43,5 +43,18 @@ pub fn clear_used(store: &mut [i64], count: usize)
         let h = index::bucket_at(store, k);
         clear_place(store, k, h);
         k += 1;
+    }
+}
+
+// Every number of the store is zero, where it holds count states and nothing else: place by place where they are few, so that a large
+// store with few states is cleared in no time, and else from one end to the other.
+pub fn clear_used(store: &mut [i64], count: usize)
+    requires { ⌜ Indexed (now store) count ⌝ }
+    ensures { λ _. ⌜ now (store .exit) ≡ replicate (length (now (store .entry))) (pos 0) ⌝ }
+{
+    if count < store.len() / 64 {
+        clear_places(store, count);
+    } else {
+        clear(store);
     }
 }

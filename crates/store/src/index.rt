@@ -6,18 +6,39 @@ use crate::numbers;
 use crate::places;
 use notes::State;
 ghost use mathlib.Core.Path.{_≡_};
-ghost use Prim.Native.Nat.{ℕ, _+_, _*_, _/_, _<_, _≤_};
+ghost use Prim.Native.Nat.{ℕ, _+_, _*_, _/_, _%_, _<_, _≤_, min};
 ghost use lib.ListN.{length};
 ghost use Rattle.store.specs.Store.{placeAt, headAt, linkAt, bucketOf, Relinked, Put, Storable, Indexed, IndexedAfter, Located, AddedOf, surpasses};
 
-// The bucket of a state, of as many as there are slots.
+// The number's part of 2 ^ 32, mixed by an odd factor: each digit of the number counts in the high digits of the result.
+fn mixed(x: usize, factor: usize) -> usize
+    requires { ⌜ (x < 4294967296) × (factor < 4294967296) ⌝ }
+    ensures { λ r. ⌜ (r ≡ x * factor % 4294967296) × (r < 4294967296) ⌝ }
+{
+    x * factor % 4294967296
+}
+
+// As many buckets as there are slots, but no more than a product with a number below 2 ^ 32 has room for.
+fn buckets(slots: usize) -> usize
+    ensures { λ r. ⌜ r ≡ min slots 2147483648 ⌝ }
+{
+    if slots <= 2147483648 {
+        slots
+    } else {
+        2147483648
+    }
+}
+
+// The bucket of a state, of as many as there are slots: the part of 2 ^ 32 that the mixed number makes, with no division by a number
+// that is known only at run time.
 fn bucket(slots: usize, x: State) -> usize
     requires { ⌜ 0 < slots ⌝ }
     ensures { λ r. ⌜ (r ≡ bucketOf slots x) × (r < slots) ⌝ }
 {
-    let words = places::words_of(x);
-    let n = words * 506952113 + x.covered as usize * 99338871 + x.r as usize * 313700925;
-    n / 1048576 % slots
+    let words = mixed(places::words_of(x), 2654435769);
+    let covered = mixed(x.covered as usize, 2246822519);
+    let r = mixed(x.r as usize, 3266489917);
+    (words + covered + r) % 4294967296 * buckets(slots) / 4294967296
 }
 
 // The bucket of the state at the place k.

@@ -1,22 +1,32 @@
--- The table's rule is one test, computed over the whole table.
+-- 2 to the power of i is 2 to the power of its remainder by 6, times a power of 64.
+use Prim.Native.Nat.{_*_, _^_, _≤_}
+use native.Mathlib.Omega.{arith}
+use mathlib.Core.Path.{_≡_}
+use lib.Pow.{pow-mono}
+use Rattle.coverage.proofs.Laws.{power-split}
 use borrow.Author.Needs.{needs}
-use Rattle.coverage.proofs.Laws.{power-at}
 use Rattle.coverage.proofs.power.Statement.{statement}
 use Rattle.coverage.proofs.power.Tie as tie
 use Rattle.coverage.proofs.power.Reads as reads
 use Rattle.coverage.proofs.power.Lts as lts
+use Rattle.coverage.proofs.high_power.Reads as high-power-reads
+use Rattle.coverage.proofs.low_power.Reads as low-power-reads
 
--- src/lib.rt:105:5
+low-power-requires : tie.Need-low-power-requires
+low-power-requires c κs = search needs
+
+high-power-requires : tie.Need-high-power-requires
+high-power-requires c κs = search needs
+
+is : (c : lts.After-high-power (low-power-reads.Asked, low-power-reads.Learnt, high-power-reads.Asked, high-power-reads.Learnt) reads.Pre reads.Post)
+    → c .before .low-power .result * c .high-power .result ≡ 2 ^ c .before .before .args .i
+is c = rw (c .before .low-power .ensures, c .high-power .ensures) (power-split (c .before .before .args .i))
+
 mul-result : tie.Need-mul-result
-mul-result c = search needs
+mul-result c = rw (is c) (let h : 2 ^ c .before .before .args .i ≤ 2 ^ 32 = pow-mono (c .before .before .pre) in omega (arith, h))
 
--- src/lib.rt:105:5
-array-read-result : tie.Need-array-read-result
-array-read-result c = search needs
-
--- src/lib.rt:101:1
 returns : tie.Need-returns
-returns c = search (needs, power-at (c .args .i))
+returns c = is c
 
 pub power-spec : {M : Type 1} → statement M
-power-spec = tie.close (tie.spec mul-result array-read-result returns)
+power-spec = tie.close (tie.spec low-power-requires high-power-requires mul-result returns)

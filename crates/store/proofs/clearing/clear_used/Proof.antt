@@ -1,55 +1,33 @@
--- After k turns the places below k are zero, and the heads of their buckets. At the end no other head is left: a head that is not zero is that of a bucket with a state.
-use Prim.Native.Nat.{_-_, _≤_}
-use native.Mathlib.Omega.{arith}
-use borrow.Author.Needs.{needs}
-use Rattle.store.specs.Store.{Clearing}
-use Rattle.store.proofs.Indexing.{clear-starts, clear-goes, clear-ends}
+-- Either way clears the store.
+use mathlib.Core.Path.{ap, _∙_}
+use lib.IntN.{pos}
+use lib.ListN.{length, length-replicate}
 use Rattle.store.proofs.clearing.clear_used.Statement.{statement}
 use Rattle.store.proofs.clearing.clear_used.Tie as tie
+use Rattle.store.proofs.clearing.clear_used.Reads as reads
+use Rattle.store.proofs.clearing.clear_used.Lts as lts
+use Rattle.store.proofs.clearing.clear.Reads as clear-reads
+use Rattle.store.proofs.clearing.clear_places.Reads as clear-places-reads
 
-abbrev Inv-loop : tie.InvT-loop
-Inv-loop store₀ count k₀ store k = (k ≤ count) × Clearing store₀ store k
+clear-places-requires : tie.Need-clear-places-requires
+clear-places-requires c κs = c .before .before .pre
 
-abbrev μ-loop : tie.MeasureT-loop
-μ-loop store₀ count k₀ store k = count - k
+clear-requires : tie.Need-clear-requires
+clear-requires c κs = tt
 
-loop-holds : tie.Need-loop-holds Inv-loop μ-loop
-loop-holds c = (omega arith, clear-starts _)
+same-length : tie.Need-same-length
+same-length c = ap length (c .before .clear-places .ensures) ∙ length-replicate (length (c .before .before .before .before .args .store .now)) (pos 0)
 
-bucket-at-requires : tie.Need-bucket-at-requires Inv-loop μ-loop
-bucket-at-requires c κs = omega (arith, c .before .before .loop .inv .1 .long, c .before .before .before .pre .few)
+returns : tie.Need-returns
+returns c = c .before .clear-places .ensures
 
-clear-place-requires : tie.Need-clear-place-requires Inv-loop μ-loop
-clear-place-requires c κs =
-    let long = c .before .before .before .before .loop .inv .1 .long in
-    (omega (arith, c .before .before .before .before .before .pre .few), omega (arith, c .before .before .before .before .before .pre .few, c .before .bucket-at .ensures .1))
+same-length-2 : tie.Need-same-length-2
+same-length-2 c = ap length (c .before .clear .ensures) ∙ length-replicate (length (c .before .before .before .before .args .store .now)) (pos 0)
 
-add-k : tie.Need-add-k Inv-loop μ-loop
-add-k c = search needs
-
-loop-less : tie.Need-loop-less Inv-loop μ-loop
-loop-less c = search needs
-
-loop-again : tie.Need-loop-again Inv-loop μ-loop
-loop-again c = (omega arith, clear-goes _ _ _ _ _ (c .before .before .before .before .before .before .loop .inv .1) (c .before .before .before .bucket-at .ensures .0) (c .before .clear-place .ensures))
-
-same-length : tie.Need-same-length Inv-loop μ-loop
-same-length c = c .before .loop .inv .1 .long
-
-returns : tie.Need-returns Inv-loop μ-loop
-returns c = clear-ends _ _ _ _ (c .before .before .pre) (omega (arith, c .loop-test .left)) (c .before .loop .inv .0) (c .before .loop .inv .1)
+returns-2 : tie.Need-returns-2
+returns-2 c = c .before .clear .ensures
 
 pub clear-used-spec : {M : Type 1} → statement M
 clear-used-spec =
     tie.close
-    (tie.spec
-    Inv-loop
-    μ-loop
-    loop-holds
-    bucket-at-requires
-    clear-place-requires
-    add-k
-    loop-less
-    loop-again
-    same-length
-    returns)
+    (tie.spec clear-places-requires clear-requires same-length returns same-length-2 returns-2)

@@ -1,0 +1,206 @@
+//! The library (through its C interface) beside a Rust decoder with the standard library's hash maps and a plain Rust reader,
+//! in one run: both must give the same answers, and a ratio is printed for each. Below 1.0 the library is the faster one.
+
+#[path = "../../tests/through/src/library.rs"]
+mod library;
+mod plain_reader;
+
+use library::Lent;
+use second::gen::{self, Rng};
+use std::time::{Duration, Instant};
+
+/// The shorter of two timings each, of several turns taken one after the other.
+fn side_by_side(
+    turns: usize,
+    mut ours: impl FnMut(),
+    mut theirs: impl FnMut(),
+) -> (Duration, Duration) {
+    let (mut a, mut b) = (Duration::MAX, Duration::MAX);
+    for _ in 0..turns {
+        let start = Instant::now();
+        ours();
+        a = a.min(start.elapsed());
+        let start = Instant::now();
+        theirs();
+        b = b.min(start.elapsed());
+    }
+    (a, b)
+}
+
+fn ratio(a: Duration, b: Duration) -> f64 {
+    a.as_secs_f64() / b.as_secs_f64()
+}
+
+/// A book, a direction and a width, decoded by both; the store has a tenth more places than states are entered.
+fn decode(name: &str, book: &[i32], direction: &[u16], width: i64) {
+    let n = direction.len();
+    let search = |room: usize| second::decode(book, direction, width, n, 8 * n, 8 * room);
+    let expected = search(4_000_000);
+    let states = match &expected {
+        Ok(answer) => answer.states,
+        Err(code) => return println!("{name:40} refused with {code}"),
+    };
+    let places = states + states / 10 + 1;
+    let mut lent = Lent {
+        steps: vec![0; 3 * n],
+        words: vec![0; 8 * n],
+        store: vec![0; 8 * places],
+        report: vec![0; 4],
+    };
+    let turns = (2_000_000 / states.max(1)).clamp(5, 200);
+    let (a, b) = side_by_side(
+        turns,
+        || assert_eq!(library::decode(book, direction, width, &mut lent), 0),
+        || assert_eq!(search(places), expected),
+    );
+    let answer = expected.unwrap();
+    assert_eq!(
+        (lent.report[0], lent.report[3]),
+        (answer.score, states as i64)
+    );
+    let each = |t: Duration| t.as_nanos() as f64 / states as f64;
+    println!(
+        "{name:40} {states:8} {:9.3} {:9.3} {:9.0} {:9.0} {:7.2}",
+        a.as_secs_f64() * 1e3,
+        b.as_secs_f64() * 1e3,
+        each(a),
+        each(b),
+        ratio(a, b)
+    );
+}
+
+fn file(name: &str) -> Vec<u8> {
+    let path = format!("{}/{name}", env!("CARGO_MANIFEST_DIR"));
+    std::fs::read(path).expect("a file of this folder")
+}
+
+fn decoding() {
+    println!("decoding                                   states   ours ms  theirs ms   ours ns/state  theirs   ratio");
+    let mut rng = Rng::new(1);
+    let (small, direction) = gen::large_case(&mut rng, 6, 2, 1);
+    let small = small_part(&small, 100);
+    for width in [-1, 0, 1_000, 5_000] {
+        decode(
+            &format!("small, 6 words, {}", said(width)),
+            &small,
+            &direction,
+            width,
+        );
+    }
+    let middle = second::read_book(&file("middle.txt"), usize::MAX).unwrap();
+    let direction = second::read_direction(&file("middle-direction.txt"), 32).unwrap();
+    for width in [-1, 0, 1_000, 3_000, 5_000] {
+        decode(
+            &format!("middle, 12 words, {}", said(width)),
+            &middle,
+            &direction,
+            width,
+        );
+    }
+    for (n, d, per_word, width) in [(20, 4, 8, 1_000), (32, 6, 8, 1_000), (32, 6, 8, 3_000)] {
+        let (full, direction) = gen::large_case(&mut rng, n, d, per_word);
+        decode(
+            &format!("full, {n} words, {}", said(width)),
+            &full,
+            &direction,
+            width,
+        );
+    }
+    println!();
+    println!("growth, pruning off                        states   ours ms  theirs ms   ours ns/state  theirs   ratio");
+    for (n, d, per_word) in [
+        (6, 1, 4),
+        (7, 2, 6),
+        (8, 2, 8),
+        (12, 2, 8),
+        (11, 3, 8),
+        (14, 3, 8),
+    ] {
+        let (full, direction) = gen::large_case(&mut rng, n, d, per_word);
+        decode(
+            &format!("full, {n} words, limit {d}"),
+            &full,
+            &direction,
+            -1,
+        );
+    }
+}
+
+fn said(width: i64) -> String {
+    match width {
+        -1 => "pruning off".into(),
+        _ => format!("width {width}"),
+    }
+}
+
+/// The B line and the first lines of a loaded book.
+fn small_part(book: &[i32], lines: usize) -> Vec<i32> {
+    let mut end = 4;
+    for _ in 1..lines {
+        end += match book[end] {
+            2 => (book[end + 1] + book[end + 2] + 4) as usize,
+            _ => 5,
+        };
+    }
+    book[..end].to_vec()
+}
+
+/// A book's text with so many P lines of 8 + 8 words, and twice as many T lines.
+fn text_of(rng: &mut Rng, phrases: usize) -> String {
+    let mut text = String::from("B,3,-30,-5000\n");
+    let mut word = || rng.between(1, 65_535).to_string();
+    for _ in 0..phrases {
+        let words: Vec<String> = (0..16).map(|_| word()).collect();
+        text += &format!("P,8,8,{},-1234\n", words.join(","));
+    }
+    for k in 0..2 * phrases {
+        text += &format!("T,{},{},{},-4321\n", word(), word(), k + 1);
+    }
+    text
+}
+
+fn reading() {
+    println!("reading                                     bytes   ours ms  theirs ms   ours ns/byte  theirs   ratio");
+    let mut rng = Rng::new(2);
+    for phrases in [6, 64, 640, 4_096] {
+        let text = text_of(&mut rng, phrases);
+        let mut book = vec![0; text.len()];
+        let expected = plain_reader::read(&text).expect("a good book");
+        let turns = (20_000_000 / text.len()).clamp(20, 5_000);
+        let (a, b) = side_by_side(
+            turns,
+            || {
+                assert_eq!(
+                    library::read_book(text.as_bytes(), &mut book),
+                    expected.len() as i64
+                )
+            },
+            || assert_eq!(plain_reader::read(&text).as_ref(), Some(&expected)),
+        );
+        assert_eq!(book[..expected.len()], expected);
+        let each = |t: Duration| t.as_nanos() as f64 / text.len() as f64;
+        println!(
+            "{:40} {:8} {:9.3} {:9.3} {:9.2} {:9.2} {:7.2}",
+            format!("{phrases} P and {} T lines", 2 * phrases),
+            text.len(),
+            a.as_secs_f64() * 1e3,
+            b.as_secs_f64() * 1e3,
+            each(a),
+            each(b),
+            ratio(a, b)
+        );
+        if phrases == 4_096 {
+            let (a, _) = side_by_side(200, || assert_eq!(library::check_book(&expected), 0), || ());
+            println!(
+                "questions 2 to 6 of that book, loaded:   {:.3} ms",
+                a.as_secs_f64() * 1e3
+            );
+        }
+    }
+}
+
+fn main() {
+    decoding();
+    println!();
+    reading();
+}
