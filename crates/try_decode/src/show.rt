@@ -8,19 +8,6 @@ ghost use Prim.Native.Nat.{_≤_};
 // Standard output.
 const OUT: i32 = 1;
 
-// The number, or 0 where it is negative.
-fn natural(z: i64) -> u64 {
-    if z < 0 { 0 } else { z as u64 }
-}
-
-// How far a number is from 0: `!z` is -1 - z, and never wraps.
-fn size(z: i64) -> u64 {
-    if z < 0 {
-        return std::num::wrapping_add_u64(natural(!z), 1);
-    }
-    natural(z)
-}
-
 // A comma and a count.
 fn count(n: usize) {
     io::write_all(OUT, b",");
@@ -123,10 +110,7 @@ fn left(store: &[i64]) {
 
 fn answer(a: Answer, steps: [Step; 40], words: &[u16]) {
     io::write_all(OUT, b"A,");
-    if a.score < 0 {
-        io::write_all(OUT, b"-");
-    }
-    io::print_decimal(OUT, size(a.score));
+    try_show::score(a.score);
     count(a.steps);
     count(a.words);
     count(a.states);

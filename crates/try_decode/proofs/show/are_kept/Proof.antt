@@ -1,4 +1,4 @@
--- A place is read below the array's length; the measure is how many places are left.
+-- Each step from place n on is read below the array's length, up to the first that was changed; the measure is how many places are left.
 use Prim.Native.Nat.{_-_}
 use borrow.Author.Needs.{needs}
 use Rattle.try_decode.proofs.show.are_kept.Statement.{statement}

@@ -1,4 +1,4 @@
--- A place is read below the array's length; the measure is how many places are left.
+-- Each step below n is read below the array's length and printed; the measure is how many places are left.
 use Prim.Native.Nat.{_-_}
 use borrow.Author.Needs.{needs}
 use Rattle.try_decode.proofs.show.first_steps.Statement.{statement}
