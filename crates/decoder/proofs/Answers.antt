@@ -3,19 +3,19 @@ use Prim.Native.Nat.{ℕ, zero, suc, _+_, _-_, _*_, _≤_, _<_}
 use native.Mathlib.Omega.{arith}
 use native.Mathlib.Decide.{ℕ-discrete}
 use mathlib.Core.Path.{_≡_, refl, sym, _∙_, ap, subst}
-use mathlib.Core.Bool.{Bool, true, false}
-use mathlib.Core.List.{List, [], _∷_, _++_, map, map-append, append-assoc, append-nil}
+use mathlib.Core.Bool.{Bool, false}
+use mathlib.Core.List.{List, [], _∷_, _++_, map, map-append, append-nil}
 use borrow.Author.Tests.{lt-leb}
 use lib.Dec.{leb}
 use lib.IntN.{ℤ}
-use lib.ListN.{length, getD, take, drop, set, length-append, length-drop, drop-of-length-le, List·getD-append, List·getD-map}
-use lib.Seq.{take-append-seam, drop-append-seam, drop-drop, getD-take, getD-append-seam}
+use lib.ListN.{length, getD, take, drop, set, length-append, drop-of-length-le, List·getD-append, List·getD-map}
+use lib.Seq.{getD-take, getD-append-seam}
 use native.Mathlib.Numerals.{add-one}
-use Rattle.laws.proofs.Fill.{Filled, fill-start, fill-put, fill-count, fill-end}
+use Rattle.laws.proofs.Fill.{Filled, fill-put, fill-count, fill-end, over-more}
 use Rattle.laws.specs.Lists.{concat}
-use Rattle.laws.proofs.Lists.{drop-next, take-next, part-rest, concat-++, getD-mem}
+use Rattle.laws.proofs.Lists.{drop-next, take-next, concat-++, getD-mem}
 use Rattle.notes.specs.Book.{Book, bookOf}
-use Rattle.notes.specs.Derivation.{entryAt, targetWords}
+use Rattle.notes.specs.Derivation.{noStep, entryAt, targetWords}
 use Rattle.notes.specs.Direction.{wordCount}
 use Rattle.notes.specs.Reply.{writtenOver}
 use Rattle.notes.specs.Search.{stepAt, fittingSteps}
@@ -30,7 +30,7 @@ use Rattle.derivation.specs.declared.Phrase.{Phrase}
 use Rattle.derivation.specs.declared.Task.{Task}
 use Rattle.store.specs.Back.{Leads, Way}
 use Rattle.store.specs.Ghost.{optionAt}
-use Rattle.store.specs.Shows.{nobody, noStep}
+use Rattle.store.specs.Shows.{nobody}
 use Rattle.notes.specs.declared.Decoded.the-variants.{Done}
 use Rattle.store.specs.Store.{placeAt}
 use Rattle.decoder.specs.Core.{Ends, Told}
@@ -110,33 +110,6 @@ words-more book steps step =
     ap concat (map-append (λ (s : Step). entryAt book (s .entry) .target) steps (step ∷ []))
     ∙ concat-++ (map (λ (s : Step). entryAt book (s .entry) .target) steps) (entryAt book (step .entry) .target ∷ [])
     ∙ ap (λ (ws : List ℕ). targetWords book steps ++ ws) (append-nil (entryAt book (step .entry) .target))
-
--- what was written stays, and the rest of the list is written from its front
-module _ {A : Type 0} (xs ys old : List A) where
-  abbrev so-far : List A
-  so-far = writtenOver xs old
-
-  abbrev after : List A
-  after = drop (length xs) so-far
-
-  pub over-more : {words part : List A} {count : ℕ} → words ≡ so-far → count ≡ length xs → part ≡ writtenOver ys (take (length words - count) (drop count words))
-      → take count words ++ (part ++ drop (length words - count) (drop count words)) ≡ writtenOver (xs ++ ys) old
-  over-more {words} {part} {count} w c e =
-      let rest : drop (length xs) so-far ≡ drop (length xs) old = drop-append-seam xs (drop (length xs) old) in
-      let all : take (length so-far - length xs) after ≡ after = part-rest so-far (length xs) in
-      let none : drop (length so-far - length xs) after ≡ [] = drop-of-length-le after {i = length so-far - length xs} (let l = length-drop (length xs) so-far in omega arith) in
-      let p : part ≡ ys ++ drop (length ys) (drop (length xs) old) =
-      e ∙ ap (λ (ws : List A). writtenOver ys (take (length ws - count) (drop count ws))) w ∙ ap (λ (k : ℕ). writtenOver ys (take (length so-far - k) (drop k so-far))) c
-      ∙ ap (writtenOver ys) (all ∙ rest) in
-      ap (λ (ws : List A). take count ws ++ (part ++ drop (length ws - count) (drop count ws))) w
-      ∙ ap (λ (k : ℕ). take k so-far ++ (part ++ drop (length so-far - k) (drop k so-far))) c
-      ∙ ap (λ (ws : List A). ws ++ (part ++ drop (length so-far - length xs) after)) (take-append-seam xs (drop (length xs) old))
-      ∙ ap (λ (ws : List A). xs ++ (part ++ ws)) none ∙ ap (λ (ws : List A). xs ++ ws) (append-nil part) ∙ ap (λ (ws : List A). xs ++ ws) p
-      ∙ ap (λ (ws : List A). xs ++ (ys ++ ws)) (drop-drop (length ys) (length xs) old)
-      ∙ ap (λ (k : ℕ). xs ++ (ys ++ drop k old)) (sym (length-append xs ys)) ∙ sym (append-assoc xs ys (drop (length (xs ++ ys)) old))
-
-pub over-long : {A : Type 0} (xs old : List A) → length xs ≤ length old → length (writtenOver xs old) ≡ length old
-over-long xs old h = let a = length-append xs (drop (length xs) old) in let d = length-drop (length xs) old in omega arith
 
 -- ---- one step's words more
 

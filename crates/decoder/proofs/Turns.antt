@@ -1,29 +1,26 @@
 -- One option of a state: where it may extend it, and what is added then.
-use Prim.Native.Nat.{ℕ, zero, suc, _+_, _-_, _*_, _^_, _/_, _≤_, _<_}
+use Prim.Native.Nat.{ℕ, zero, suc, _+_, _-_, _^_, _≤_, _<_}
 use native.Mathlib.Omega.{arith}
 use mathlib.Core.Path.{_≡_, refl, sym, _∙_, ap, subst}
-use mathlib.Core.Bool.{Bool, true, false, _&&_, and-true, and-false}
+use mathlib.Core.Bool.{Bool, true, false, and-true, and-false}
 use mathlib.Core.List.{List, List·Memᴰ}
-use native.Mathlib.Decide.{ℕ-discrete}
 use native.Mathlib.Numerals.{add-one}
 use borrow.Author.Tests.{le-leb, lt-leb}
 use lib.Dec.{leb}
 use lib.IntN.{ℤ}
 use lib.ListN.{length, getD, drop}
 use Rattle.laws.specs.Bits.{bitsOf}
-use Rattle.laws.specs.Integers.{Within}
 use Rattle.laws.proofs.Bits.{bits-length}
 use Rattle.laws.proofs.Bounds.{within-mono}
-use Rattle.laws.proofs.Lists.{getD-mem}
-use Rattle.laws.proofs.Tests.{both-of}
+use Rattle.laws.proofs.Lists.{getD-mem, climbs}
 use Rattle.coverage.specs.Runs.{freeRun, RunsFrom}
 use Rattle.coverage.proofs.Laws.{free-run}
 use Rattle.search_theory.specs.Search.{run}
 use Rattle.notes.specs.Book.{Book, bookOf}
 use Rattle.notes.specs.Direction.{wordCount}
-use Rattle.notes.specs.Derivation.{entryAt, fits, jump}
-use Rattle.notes.specs.State.{Key, wordsCovered, isFree, mayExtend, keyOf, gainBound, scoreBound}
-use Rattle.notes.specs.Search.{stepAt, fittingSteps, search}
+use Rattle.notes.specs.Derivation.{noStep, entryAt, fits, jump}
+use Rattle.notes.specs.State.{isFree, mayExtend, keyOf}
+use Rattle.notes.specs.Search.{stepAt, fittingSteps}
 use Rattle.notes.specs.declared.Step.{Step}
 use Rattle.notes.proofs.Steps.{Fits, fits-facts, fits-size, listed-fits}
 use Rattle.notes.proofs.Ranges.{loaded-ranged}
@@ -31,8 +28,7 @@ use Rattle.derivation.specs.Model.{PhraseOf}
 use Rattle.derivation.specs.Next.{jumpFrom}
 use Rattle.derivation.specs.declared.Phrase.{Phrase}
 use Rattle.derivation.specs.declared.Task.{Task}
-use Rattle.store.specs.Shows.{noStep}
-use Rattle.store.specs.Store.{Storable, AddedOf, IndexedAfter}
+use Rattle.store.specs.Store.{Storable}
 use Rattle.store.specs.Ghost.{optionAt, Chosen, Growing, Grew, After, NextPlace}
 use Rattle.store.specs.declared.Place.{Place}
 use Rattle.store.specs.declared.Added.{Added}
@@ -137,15 +133,6 @@ turn-of T o a b =
       run-is = T .run-is;
       near = T .near;
     }
-
--- what does not fall from one place to the next does not fall
-climbs : (f : ℕ → ℕ) (i m : ℕ) → ((k : ℕ) → i ≤ k → k < i + m → f k ≤ f (suc k)) → f i ≤ f (i + m)
-climbs f i zero up = let e : i + zero ≡ i = omega arith in rw e (omega arith)
-climbs f i (suc m) up =
-    let a : f i ≤ f (i + m) = climbs f i m (λ k l h. up k l (omega arith)) in
-    let b : f (i + m) ≤ f (suc (i + m)) = up (i + m) (omega arith) (omega arith) in
-    let e : i + suc m ≡ suc (i + m) = omega arith in
-    rw e (omega arith)
 
 -- several options that may not extend the state
 module _ (bk : Book) (direction : List ℕ) (width : ℤ) (i j : ℕ) (x : Place) (A : Chosen bk direction width i j x) (from : ℕ) (st : List ℤ) (count : ℕ) where

@@ -11,11 +11,11 @@ use Rattle.laws.specs.Lists.{keep, concat, numbersFrom, oneTo}
 use Rattle.laws.proofs.Lists.{keep-++, keep-mem, keep-length, count-le, concat-++, numbers-next, numbers-length, getD-mem}
 use Rattle.notes.specs.Book.{Book}
 use Rattle.notes.specs.Direction.{wordCount}
-use Rattle.notes.specs.Derivation.{fits}
+use Rattle.notes.specs.Derivation.{noStep, fits}
 use Rattle.notes.specs.Search.{stepAt, fittingSteps}
 use Rattle.notes.specs.declared.Step.{Step}
 use Rattle.notes.proofs.Steps.{fits-facts, listed-fits}
-use Rattle.derivation.specs.Options.{noStep, fittingAt, fittingTo, entryNumbers, Listed, OptionsOf}
+use Rattle.derivation.specs.Options.{fittingAt, fittingTo, entryNumbers, Listed, OptionsOf}
 
 -- ════ one entry more
 

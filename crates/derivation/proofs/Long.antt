@@ -15,14 +15,13 @@ use Rattle.laws.proofs.Lists.{count-le, take-next, numbers-next}
 use Rattle.notes.specs.Questions.{_unless_}
 use Rattle.notes.specs.Book.{Book}
 use Rattle.notes.specs.Direction.{wordCount}
-use Rattle.notes.specs.Derivation.{fits, jump, scoreOf}
+use Rattle.notes.specs.Derivation.{noStep, fits, jump, scoreOf}
 use Rattle.notes.specs.State.{Key, start, wordsCovered, isFree, nextKey}
 use Rattle.notes.specs.Reply.{Reply, reply, stepsRefusal}
 use Rattle.notes.specs.declared.Step.{Step}
 use Rattle.notes.proofs.Chains.{first-passes, rest-passes, test-passes}
 use Rattle.notes.proofs.Steps.{fits-facts}
 use Rattle.notes.proofs.Cover.{cover-length, cover-adds, none-covered}
-use Rattle.derivation.specs.Options.{noStep}
 use Rattle.derivation.specs.Proposal.{stepIn, stepsIn}
 
 module _ (book : Book) (direction : List ℕ) where

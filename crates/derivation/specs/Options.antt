@@ -6,13 +6,9 @@ use lib.ListN.{length, getD, take}
 use Rattle.laws.specs.Lists.{keep, concat, oneTo}
 use Rattle.notes.specs.Book.{Book}
 use Rattle.notes.specs.Direction.{wordCount}
-use Rattle.notes.specs.Derivation.{fits}
+use Rattle.notes.specs.Derivation.{noStep, fits}
 use Rattle.notes.specs.Search.{stepAt, fittingSteps}
 use Rattle.notes.specs.declared.Step.{Step}
-
--- what stands behind the end of a list of steps
-abbrev pub noStep : Step
-noStep = record { first = 0; last = 0; entry = 0 }
 
 -- the steps of the first m entries that fit at a first position
 unfoldable pub fittingAt : Book → List ℕ → ℕ → ℕ → List Step

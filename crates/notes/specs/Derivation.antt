@@ -36,6 +36,10 @@ wordsScore book v w (y ∷ ys) = tripleScore book v w y +ℤ wordsScore book w y
 abbrev pub noEntry : Entry
 noEntry = record { source = []; target = []; g = pos 0 }
 
+-- what stands behind the end of a list of steps
+abbrev pub noStep : Step
+noStep = record { first = 0; last = 0; entry = 0 }
+
 -- "the entry is in the book"
 unfoldable pub isEntry : Book → ℕ → Bool
 isEntry book k = within 1 (length (book .entries)) k

@@ -4,12 +4,7 @@ use native.Mathlib.Omega.{arith}
 use mathlib.Core.List.{List, [], _∷_}
 use mir.Syntax.{Ty, Local, local, Body, skip, seq, assign, block, loop, cond, switch, exit, return, call, tyUnit}
 use denote.Slice.{Room}
-use Rattle.notes.specs.declared.Step.{Step}
 use Rattle.notes.proofs.Step as T
-
--- what stands at a place with no record
-abbrev pub noStep : Step
-noStep = record { first = 0; last = 0; entry = 0 }
 
 -- the byte offset of a record fits a usize: the list's bytes have room
 pub fits-mul : (n i : ℕ) → Room T.the-row n → i < n → i * 6 < 2 ^ 64

@@ -22,9 +22,10 @@ use Rattle.notes.specs.Search.{fittingSteps, search}
 use Rattle.notes.specs.declared.Step.{Step}
 use Rattle.notes.proofs.Instance.{steady}
 use Rattle.store.specs.Store.{placeAt}
-use Rattle.store.specs.Shows.{nobody, noStep}
+use Rattle.notes.specs.Derivation.{noStep}
+use Rattle.store.specs.Shows.{nobody}
 use Rattle.store.specs.Ghost.{optionAt, Starting}
-use Rattle.store.specs.Back.{Linked, Chains, Leads, Way, Behind}
+use Rattle.store.specs.Back.{Linked, Chains, Way, Behind}
 use Rattle.store.specs.declared.Place.{Place}
 use Rattle.store.proofs.Showing.{size-small}
 

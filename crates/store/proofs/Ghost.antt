@@ -36,7 +36,8 @@ use Rattle.notes.proofs.Cover.{none-covered}
 use Rattle.notes.proofs.Instance.{legal-length, steady, score-within}
 use Rattle.notes.proofs.Ranges.{Ranged}
 use Rattle.store.specs.Store.{placeAt, isSame, Unseen, Met, Put, Indexed, AddedOf, IndexedAfter, Storable}
-use Rattle.store.specs.Shows.{nobody, noStep, Shows, Lists}
+use Rattle.notes.specs.Derivation.{noStep}
+use Rattle.store.specs.Shows.{nobody, Shows, Lists}
 use Rattle.store.specs.Ghost.{inWidth, optionAt, Held, Starting, Levelling, Growing, Chosen, topOf, After, Grew, Levelled, NextPlace}
 use Rattle.store.specs.Answer.{sized, noClose, picked}
 use Rattle.store.specs.declared.Place.{Place}

@@ -7,7 +7,8 @@ use lib.ListN.{length, getD}
 use Rattle.notes.specs.State.{Hyp}
 use Rattle.notes.specs.declared.Step.{Step}
 use Rattle.store.specs.Store.{placeAt}
-use Rattle.store.specs.Shows.{nobody, noStep}
+use Rattle.notes.specs.Derivation.{noStep}
+use Rattle.store.specs.Shows.{nobody}
 
 -- the state at the place j is its parent's with one step more
 pub record Linked (f : ℕ → Step) (m : ℕ) (st : List ℤ) (l : List Hyp) (j : ℕ) : Type 0 where

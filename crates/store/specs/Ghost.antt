@@ -16,7 +16,8 @@ use Rattle.notes.specs.State.{Hyp, wordsCovered, nextKey, gain, keyOf}
 use Rattle.notes.specs.Search.{fittingSteps, isOff, bestScore, search}
 use Rattle.notes.specs.declared.Step.{Step}
 use Rattle.store.specs.Store.{placeAt, Indexed}
-use Rattle.store.specs.Shows.{nobody, noStep, Fine, Shows}
+use Rattle.notes.specs.Derivation.{noStep}
+use Rattle.store.specs.Shows.{nobody, Fine, Shows}
 use Rattle.store.specs.declared.Place.{Place}
 use Rattle.store.specs.declared.Added.{Added}
 use Rattle.store.specs.declared.Added.the-variants.{Replaced, Kept, Appended, Full}

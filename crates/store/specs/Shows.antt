@@ -7,16 +7,12 @@ use lib.IntN.{ℤ, pos}
 use lib.ListN.{length, getD}
 use Rattle.notes.specs.State.{Hyp, wordsCovered, keyOf}
 use Rattle.notes.specs.declared.State.{State}
-use Rattle.notes.specs.declared.Step.{Step}
 use Rattle.store.specs.Store.{placeAt}
 use Rattle.store.specs.declared.Place.{Place}
 
--- what `getD` gives past the end: nothing depends on these two
+-- what `getD` gives past the end: nothing depends on it
 abbrev pub nobody : Hyp
 nobody = record { key = record { word1 = 0; word2 = 0; covered = []; r = 0 }; score = pos 0; steps = [] }
-
-abbrev pub noStep : Step
-noStep = record { first = 0; last = 0; entry = 0 }
 
 -- no position past the last word is covered
 pub record Fine (n : ℕ) (x : State) : Type 0 where

@@ -136,6 +136,7 @@ pub fn rooms() {
     );
     show::run(b"word list of 320", &book, &direction, -1, 2, 320, 4096);
     show::run(b"step room of n", &book, &direction, -1, 2, 320, 4160);
+    show::run(b"step room of n + 3", &book, &direction, -1, 5, 320, 4160);
     show::run(b"step room of n - 1", &book, &direction, -1, 1, 320, 4160);
     show::run(b"no room at all", &book, &direction, -1, 0, 0, 4096);
     show::run(b"12 before 13", &book, &direction, -1, 2, 15, 8);

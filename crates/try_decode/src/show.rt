@@ -1,24 +1,12 @@
 // The line of one case: the label, `R,` and a refusal's number or `A,` and the answer with its steps and words, what is left in the
-// store, and whether the words beyond the count are as they were.
+// store, and whether the steps and the words beyond the counts are as they were.
 use notes::Answer;
 use notes::Decoded;
+use notes::Step;
 ghost use Prim.Native.Nat.{_≤_};
 
 // Standard output.
 const OUT: i32 = 1;
-
-// The number, or 0 where it is negative.
-fn natural(z: i64) -> u64 {
-    if z < 0 { 0 } else { z as u64 }
-}
-
-// How far a number is from 0: `!z` is -1 - z, and never wraps.
-fn size(z: i64) -> u64 {
-    if z < 0 {
-        return std::num::wrapping_add_u64(natural(!z), 1);
-    }
-    natural(z)
-}
 
 // A comma and a count.
 fn count(n: usize) {
@@ -32,6 +20,23 @@ fn number(z: u16) {
     io::print_decimal(OUT, z as u64);
 }
 
+fn step(s: Step) {
+    number(s.first);
+    number(s.last);
+    number(s.entry);
+}
+
+// The steps before each call.
+const GARBAGE: Step = Step {
+    first: 5,
+    last: 6,
+    entry: 8,
+};
+
+fn is_garbage(s: Step) -> bool {
+    s.first == 5 && s.last == 6 && s.entry == 8
+}
+
 // The first n numbers of a list, a comma before each.
 fn first(list: &[u16], n: usize) {
     let mut i: usize = 0;
@@ -41,6 +46,29 @@ fn first(list: &[u16], n: usize) {
         }
         i += 1;
     }
+}
+
+// The first n steps of a list, three numbers each.
+fn first_steps(steps: [Step; 40], n: usize) {
+    let mut i: usize = 0;
+    while i < 40 {
+        if i < n {
+            step(steps[i]);
+        }
+        i += 1;
+    }
+}
+
+// Every step of the list from place n on is still the garbage it was filled with.
+fn are_kept(steps: [Step; 40], n: usize) -> bool {
+    let mut i: usize = 0;
+    while i < 40 {
+        if n <= i && !is_garbage(steps[i]) {
+            return false;
+        }
+        i += 1;
+    }
+    true
 }
 
 // Every number of the list from place n on is still the garbage it was filled with.
@@ -70,52 +98,52 @@ fn is_all(store: &[i64], z: i64) -> bool {
 // The store afterwards; an empty one is zero.
 fn left(store: &[i64]) {
     if is_all(store, 0) {
-        io::write_all(OUT, b" store zero, words");
+        io::write_all(OUT, b" store zero, steps");
         return;
     }
     if is_all(store, 9) {
-        io::write_all(OUT, b" store kept, words");
+        io::write_all(OUT, b" store kept, steps");
         return;
     }
-    io::write_all(OUT, b" store MIXED, words");
+    io::write_all(OUT, b" store MIXED, steps");
 }
 
-fn answer(a: Answer, numbers: &[u16], words: &[u16]) {
+fn answer(a: Answer, steps: [Step; 40], words: &[u16]) {
     io::write_all(OUT, b"A,");
-    if a.score < 0 {
-        io::write_all(OUT, b"-");
-    }
-    io::print_decimal(OUT, size(a.score));
+    try_show::score(a.score);
     count(a.steps);
     count(a.words);
     count(a.states);
     io::write_all(OUT, b" S");
-    first(
-        numbers,
-        std::num::wrapping_add_usize(a.steps, std::num::wrapping_add_usize(a.steps, a.steps)),
-    );
+    first_steps(steps, a.steps);
     io::write_all(OUT, b" W");
     first(words, a.words);
 }
 
-// What is replied, and the number of words that it says were written.
-fn reply(decoded: Decoded, numbers: &[u16], words: &[u16]) -> usize {
+// Whether the steps from place s on and the words from place w on are as they were.
+fn beyond(steps: [Step; 40], s: usize, words: &[u16], w: usize) {
+    if are_kept(steps, s) {
+        io::write_all(OUT, b" kept, words");
+    } else {
+        io::write_all(OUT, b" CHANGED, words");
+    }
+    try_show::end(is_kept(words, w));
+}
+
+// The line behind its label.
+fn line(decoded: Decoded, steps: [Step; 40], words: &[u16], store: &[i64]) {
     match decoded {
         Decoded::Done(a) => {
-            answer(a, numbers, words);
-            a.words
+            answer(a, steps, words);
+            left(store);
+            beyond(steps, a.steps, words, a.words);
         }
         Decoded::Refused(refusal) => {
             try_show::refused(refusal);
-            0
+            left(store);
+            beyond(steps, 0, words, 0);
         }
     }
-}
-
-fn line(decoded: Decoded, numbers: &[u16], words: &[u16], store: &[i64]) {
-    let n = reply(decoded, numbers, words);
-    left(store);
-    try_show::end(is_kept(words, n));
 }
 
 // One case in the lists that are lent.
@@ -127,15 +155,17 @@ fn part(
     room: usize,
     words: &mut [u16],
     store: &mut [i64],
-) {
-    let core = phrase::plain::decode_plain(book, direction, width, room, words, store);
+)
+    requires { ⌜ room ≤ 40 ⌝ }
+{
+    let asked = crate::ask(book, direction, width, [GARBAGE; 40], room, words, store);
     try_show::begin(label);
-    let numbers = core.plain.numbers;
-    let decoded = core.reply;
-    line(decoded, &numbers, words, store);
+    let decoded = asked.reply;
+    let steps = asked.steps;
+    line(decoded, steps, words, store);
 }
 
-// One case, in lists that are full of garbage: `w` words and `s` numbers of store are lent.
+// One case, in lists that are full of garbage: `room` steps, `w` words and `s` numbers of store are lent.
 pub fn run(
     label: &[u8],
     book: &[i32],
@@ -145,6 +175,7 @@ pub fn run(
     w: usize,
     s: usize,
 )
+    requires { ⌜ room ≤ 40 ⌝ }
     requires { ⌜ w ≤ 320 ⌝ }
     requires { ⌜ s ≤ 4160 ⌝ }
 {

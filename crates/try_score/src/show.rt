@@ -1,65 +1,15 @@
 // What the cases print with: a line is a label, a colon, and the score or `R,` and the number of the refusal.
 ghost use Prim.Native.Nat.{_≤_};
-use notes::Refusal;
 use notes::Scored;
 use notes::Step;
-
-// Standard output.
-const OUT: i32 = 1;
-
-// A refusal's number in document 01.
-fn number_of(refusal: Refusal) -> u64 {
-    match refusal {
-        Refusal::BookText => 1,
-        Refusal::LineFields => 2,
-        Refusal::BLine => 3,
-        Refusal::NumberRange => 4,
-        Refusal::LineCount => 5,
-        Refusal::RepeatedTriple => 6,
-        Refusal::ListTooShort => 7,
-        Refusal::DirectionText => 8,
-        Refusal::WordCount => 9,
-        Refusal::WordRange => 10,
-        Refusal::Width => 11,
-        Refusal::StepsOrWordsTooShort => 12,
-        Refusal::StoreTooSmall => 13,
-        Refusal::NoDerivation => 14,
-        Refusal::LastSetEmpty => 15,
-        Refusal::DoesNotFit => 16,
-        Refusal::CoveredTwice => 17,
-        Refusal::JumpTooLong => 18,
-        Refusal::Uncovered => 19,
-    }
-}
-
-// The number, or 0 where it is negative.
-fn natural(z: i64) -> u64 {
-    if z < 0 { 0 } else { z as u64 }
-}
-
-// How far a number is from 0: `!z` is -1 - z, and never wraps.
-fn size(z: i64) -> u64 {
-    if z < 0 {
-        return std::num::wrapping_add_u64(natural(!z), 1);
-    }
-    natural(z)
-}
-
-fn score(z: i64) {
-    if z < 0 {
-        io::write_all(OUT, b"-");
-    }
-    io::print_decimal(OUT, size(z));
-}
 
 fn reply(scored: Scored) {
     match scored {
         Scored::Score(z) => {
-            score(z);
+            try_show::score(z);
         }
         Scored::Refused(refusal) => {
-            io::write_all(OUT, b"R,");
-            io::print_decimal(OUT, number_of(refusal));
+            try_show::refused(refusal);
         }
     }
 }
@@ -68,10 +18,9 @@ fn reply(scored: Scored) {
 pub fn many(label: &[u8], book: &[i32], direction: &[u16], steps: [Step; 40], count: usize)
     requires { ⌜ count ≤ 40 ⌝ }
 {
-    io::write_all(OUT, label);
-    io::write_all(OUT, b": ");
+    try_show::begin(label);
     reply(crate::ask(book, direction, steps, count));
-    io::write_all(OUT, b"\n");
+    try_show::word(b"\n");
 }
 
 pub fn step(first: u16, last: u16, entry: u16) -> Step {

@@ -43,6 +43,27 @@ pub fn refused(refusal: Refusal) {
     io::print_decimal(OUT, number_of(refusal));
 }
 
+// The number, or 0 where it is negative.
+fn natural(z: i64) -> u64 {
+    if z < 0 { 0 } else { z as u64 }
+}
+
+// How far a score is from 0: `!z` is -1 - z, and never wraps.
+fn score_size(z: i64) -> u64 {
+    if z < 0 {
+        return std::num::wrapping_add_u64(natural(!z), 1);
+    }
+    natural(z)
+}
+
+// A score.
+pub fn score(z: i64) {
+    if z < 0 {
+        io::write_all(OUT, b"-");
+    }
+    io::print_decimal(OUT, score_size(z));
+}
+
 // The whole answer of a check.
 pub fn checked(reply: Checked) {
     match reply {

@@ -1,3 +1,4 @@
+-- Both rows are read at a place that both have; the measure is how much of the first row is left.
 use lib.ListN.{length}
 use Prim.Native.Nat.{_-_}
 use borrow.Author.Needs.{needs}

@@ -1,3 +1,4 @@
+-- Each number is read at a place of the list, up to the first that differs; the measure is how many are left.
 use lib.ListN.{length}
 use Prim.Native.Nat.{_-_}
 use borrow.Author.Needs.{needs}

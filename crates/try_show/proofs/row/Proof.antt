@@ -1,3 +1,4 @@
+-- Each number is read at a place of the row and printed; the measure is how many are left.
 use lib.ListN.{length}
 use Prim.Native.Nat.{_-_}
 use borrow.Author.Needs.{needs}

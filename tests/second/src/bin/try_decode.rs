@@ -1,9 +1,11 @@
+// The second decoder on the very cases of crates/try_decode/src/cases.rt.
 #[path = "../../../../crates/try_decode/src/books.rt"]
 mod books;
 #[path = "../../../../crates/try_decode/src/cases.rt"]
 mod cases;
 mod show {
-    // Document 01: up to 12 no lent list changes; after 13, 14, 15 and success the store is all zero; words beyond the count are unchanged.
+    // Document 01: up to 12 no lent list changes; after 13, 14, 15 and success the store is all zero; places of the steps and words
+    // beyond the counts are unchanged.
     pub fn run(
         label: &[u8],
         book: &[i32],
@@ -29,7 +31,7 @@ mod show {
             }
         };
         println!(
-            "{label}: {text} store {}, words kept",
+            "{label}: {text} store {}, steps kept, words kept",
             if zero || s == 0 { "zero" } else { "kept" }
         );
     }

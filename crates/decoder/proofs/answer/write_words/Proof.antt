@@ -10,7 +10,8 @@ use Rattle.notes.specs.Reply.{writtenOver}
 use Rattle.derivation.specs.Model.{PhraseOf}
 use Rattle.notes.specs.declared.Step.{Step}
 use Rattle.records.specs.Plain.{stepIn, stepsTo, stepsOf}
-use Rattle.decoder.proofs.Answers.{over-long, write-count, write-more}
+use Rattle.laws.proofs.Fill.{over-long}
+use Rattle.decoder.proofs.Answers.{write-count, write-more}
 use Rattle.decoder.proofs.answer.write_words.Statement.{statement}
 use Rattle.decoder.proofs.answer.write_words.Tie as tie
 use Rattle.decoder.proofs.answer.write_words.Reads as reads

@@ -53,7 +53,7 @@ left-next : (c : tie.In-loop Inv-loop μ-loop)
 left-next c =
     let b = c .before .before .before .before .before .before .before in
     let l = c .before .loop in
-    rw (rest-next (b .args .steps .now) (b .args .count) (l .i) (c .loop-test .taken)) at (l .inv .1)
+    rw (rest-next (b .args .steps .now) (b .args .count) (l .i) (omega (arith, c .loop-test .taken))) at (l .inv .1)
 
 -- none is left
 left-none : (c : tie.After-loop Inv-loop μ-loop)
@@ -62,7 +62,7 @@ left-none : (c : tie.After-loop Inv-loop μ-loop)
 left-none c =
     let b = c .before .before .before .before .before .before .before in
     let l = c .before .loop in
-    rw (rest-end (b .args .steps .now) (b .args .count) (l .i) (c .loop-test .left)) at (l .inv .1)
+    rw (rest-end (b .args .steps .now) (b .args .count) (l .i) (omega (arith, c .loop-test .left))) at (l .inv .1)
 
 -- all digits
 all-ones : (c : tie.After-covered-with Inv-loop μ-loop) → c .covered-with .result ≡ 2 ^ wordCount (c .before .before .before .before .before .before .before .before .args .direction .now) - 1

@@ -1,3 +1,4 @@
+-- Each word below n is read at a place of the list and printed; the measure is how many places are left.
 use borrow.Author.Needs.{needs}
 use lib.ListN.{length}
 use Prim.Native.Nat.{_-_}

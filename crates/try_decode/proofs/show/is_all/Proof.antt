@@ -1,3 +1,4 @@
+-- Each number is read at a place of the store, up to the first that differs; the measure is how many are left.
 use borrow.Author.Needs.{needs}
 use lib.ListN.{length}
 use Prim.Native.Nat.{_-_}

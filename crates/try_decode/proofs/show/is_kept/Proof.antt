@@ -1,3 +1,4 @@
+-- Each word from place n on is read at a place of the list, up to the first that was changed; the measure is how many places are left.
 use borrow.Author.Needs.{needs}
 use lib.ListN.{length}
 use Prim.Native.Nat.{_-_}

@@ -2,8 +2,8 @@
 use mir.Syntax.{w64}
 use borrow.Author.Needs.{needs}
 use Rattle.laws.proofs.Integers.{nat-cast}
-use Rattle.try_score.proofs.show.natural.Statement.{statement}
-use Rattle.try_score.proofs.show.natural.Tie as tie
+use Rattle.try_show.proofs.natural.Statement.{statement}
+use Rattle.try_show.proofs.natural.Tie as tie
 
 cast-result : tie.Need-cast-result
 cast-result c = nat-cast (c .before .fits .z) w64 tt (c .if1 .left)
