@@ -6,3 +6,4 @@ pub mod Numbers
 pub mod Row
 pub mod Lines
 pub mod Whole
+pub mod Fields

@@ -2,7 +2,7 @@
 use mathlib.Core.Path.{ap, _∙_}
 use mathlib.Core.Bool.{true}
 use lib.ListN.{length}
-use Rattle.text.specs.declared.Scan.the-variants.{Line}
+use Rattle.text.specs.Scan.{Line}
 use Rattle.text.proofs.Laws.{emit-marks}
 use Rattle.text.proofs.Numbers.{book-numbers}
 use borrow.Author.Needs.{needs}
