@@ -3,12 +3,14 @@ use Prim.Native.Nat.{ℕ, _+_, _≤_, _<_}
 use mathlib.Core.Path.{_≡_}
 use mathlib.Core.Bool.{Bool, true, false, cond, _&&_}
 use mathlib.Core.List.{List, [], _∷_}
+use lib.IntN.{ℤ}
 use lib.ListN.{length, drop, getD}
 use Rattle.notes.specs.Numerals.{isDigit}
 use Rattle.text.specs.Scan.{Scan, Line, Field, Digits, moreDigits, run, atLine, emit, emitLine}
-use Rattle.text.specs.Walk.{lineLength}
+use Rattle.text.specs.Walk.{lineLength, filledWith}
 use Rattle.text.specs.declared.Numeral.{Numeral}
 use Rattle.text.specs.declared.Piece.{Piece}
+use Rattle.text.specs.declared.TextLine.{TextLine}
 
 -- a field starts at a line's beginning, or behind a comma
 abbrev pub start : Bool → Scan
@@ -41,3 +43,12 @@ pub record FieldRead (book : Bool) (s : Scan) (t : List ℕ) (at : ℕ) (r : Pie
   pub long : r .good ≡ true → at + lineLength (drop at t) ≡ r .end + cond (r .last) 0 (lineLength (drop (r .end) t))
   pub later : r .good ≡ true → at < r .end
   pub within : r .good ≡ true → r .end ≤ length t
+
+-- the line from `at` on was read to the list that was `old`, where it is good
+pub record RowRead (t : List ℕ) (at : ℕ) (old new : List ℤ) (r : TextLine) : Type 0 where
+  pub ends : atLine (run true Line (drop at t)) ≡ r .good && atLine (run true Line (drop (r .end) t))
+  pub counted : r .good ≡ true → r .count ≡ length (emitLine true Line (drop at t))
+  pub holds : r .good ≡ true → new ≡ filledWith (emitLine true Line (drop at t)) old
+  pub long : r .good ≡ true → r .end ≡ at + lineLength (drop at t)
+  pub within : r .good ≡ true → r .end ≤ length t
+  pub same : length new ≡ length old

@@ -1,5 +1,5 @@
 -- A text read a byte at a time: what may follow what has been read, and the number that a comma or a byte 10 ends.
--- What a text is and says is stated in notes' specs (Numerals, Book, Direction); proofs/Bridge has that both agree.
+-- What a text is and says is stated in notes' specs (Numerals, Book, Direction); proofs/Form and proofs/Numbers have that both agree.
 use Prim.Native.Nat.{ℕ, _+_, _*_, _-_}
 use mathlib.Core.Bool.{Bool, true, false, cond, _||_}
 use mathlib.Core.List.{List, [], _∷_}
@@ -103,11 +103,6 @@ isMark b = eqb b comma || eqb b newline
 abbrev pub emit : Bool → Scan → List ℕ → List ℤ
 emit book s [] = []
 emit book s (b ∷ bs) = cond (isMark b) (scanned s ∷ emit book (next book s b) bs) (emit book (next book s b) bs)
-
--- how many marks there are
-abbrev pub marks : List ℕ → ℕ
-marks [] = 0
-marks (b ∷ bs) = cond (isMark b) (marks bs + 1) (marks bs)
 
 -- ════ a line of the text
 

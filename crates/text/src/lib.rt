@@ -2,15 +2,15 @@
 // A text is read a field at a time (`read_field`), and each function here is one walk over its fields.
 ghost use mathlib.Core.Path.{_≡_};
 ghost use mathlib.Core.Bool.{Bool, true, false, _&&_};
-ghost use Prim.Native.Nat.{_+_, _-_, _≤_, _<_};
-ghost use lib.ListN.{length, drop, set};
+ghost use Prim.Native.Nat.{_-_, _≤_, _<_};
+ghost use lib.ListN.{length, set};
 ghost use Rattle.notes.specs.Numerals.{isDigit};
 ghost use Rattle.notes.specs.Book.{isBookText, loadedOf};
 ghost use Rattle.notes.specs.Direction.{isDirectionText, directionNumbers};
 ghost use Rattle.notes.specs.Reply.{writtenOver};
-ghost use Rattle.text.specs.Scan.{Line, Field, Minus, Digits, moreDigits, run, atLine, signed, letterKind, isMark, emit, marks};
-ghost use Rattle.text.specs.Fields.{start, noMore, DigitsRead, FieldRead};
-ghost use Rattle.text.specs.Walk.{lineLength, filledWith};
+ghost use Rattle.text.specs.Scan.{Line, Field, Minus, Digits, moreDigits, run, atLine, signed, letterKind, emit};
+ghost use Rattle.text.specs.Fields.{start, noMore, DigitsRead, FieldRead, RowRead};
+ghost use Rattle.text.specs.Walk.{filledWith};
 
 // Digits that were read: the value that they make, and the place behind them.
 struct Numeral {
@@ -25,6 +25,14 @@ struct Piece {
     end: usize,
     good: bool,
     last: bool,
+}
+
+// A line of a book's text that was read: how many numbers it has, its kind among them, and the place behind it. It is good where
+// each of its fields is, and the byte 10 ends it.
+pub struct TextLine {
+    pub count: usize,
+    pub end: usize,
+    pub good: bool,
 }
 
 // A digit 0 to 9.
@@ -253,32 +261,6 @@ pub fn is_direction_text(text: &[u8]) -> bool
     is_formed(false, false, text)
 }
 
-// A comma or the byte 10, which ends a number.
-fn is_mark(b: u8) -> bool
-    ensures { λ r. ⌜ r ≡ isMark b ⌝ }
-{
-    if b == 44 {
-        return true;
-    }
-    b == 10
-}
-
-// How many commas and bytes 10 a text has.
-fn count_marks(text: &[u8]) -> usize
-    ensures { λ r. ⌜ r ≡ marks (now (text .entry)) ⌝ }
-{
-    let mut count: usize = 0;
-    let mut i: usize = 0;
-    while i < text.len() {
-        let b = text[i];
-        i += 1;
-        if is_mark(b) {
-            count += 1;
-        }
-    }
-    count
-}
-
 // Puts a number at a place of a list, if the list has that place.
 fn put(list: &mut [i32], n: usize, v: i32)
     ensures { λ _. ⌜ now (list .exit) ≡ set (now (list .entry)) n v ⌝ }
@@ -307,14 +289,6 @@ fn write_fields(book: bool, first: bool, text: &[u8], list: &mut [i32]) -> usize
     n
 }
 
-// How many numbers a book's text has.
-pub fn count_numbers(text: &[u8]) -> usize
-    requires { ⌜ isBookText (now text) ≡ true ⌝ }
-    ensures { λ r. ⌜ r ≡ length (loadedOf (now (text .entry))) ⌝ }
-{
-    count_marks(text)
-}
-
 // Writes the numbers of a book's text at the beginning of a list that has room for them, and says how many they are.
 pub fn write_numbers(text: &[u8], book: &mut [i32]) -> usize
     requires { ⌜ isBookText (now text) ≡ true ⌝ }
@@ -325,13 +299,40 @@ pub fn write_numbers(text: &[u8], book: &mut [i32]) -> usize
     write_fields(true, true, text, book)
 }
 
-// The numbers of one line of a book (with its byte 10), its kind first: how many there are, and as many as `row` has places for.
-pub fn read_row(line: &[u8], row: &mut [i32]) -> usize
-    requires { ⌜ isBookText (now line) ≡ true ⌝ }
-    ensures { λ r. ⌜ r ≡ length (loadedOf (now (line .entry))) ⌝ }
-    ensures { λ _. ⌜ now (row .exit) ≡ filledWith (loadedOf (now (line .entry))) (now (row .entry)) ⌝ }
+// Reads the line of a book that starts at `at`: its numbers, its kind first, as many as `row` has places for.
+pub fn read_row(text: &[u8], at: usize, row: &mut [i32]) -> TextLine
+    requires { ⌜ at < length (now text) ⌝ }
+    ensures { λ r. ⌜ RowRead (now (text .entry)) at (now (row .entry)) (now (row .exit)) r ⌝ }
 {
-    write_fields(true, true, line, row)
+    let mut line = true;
+    let mut count: usize = 0;
+    let mut end = at;
+    while end < text.len() {
+        let field = read_field(true, line, text, end);
+        if !field.good {
+            return TextLine {
+                count,
+                end,
+                good: false,
+            };
+        }
+        put(row, count, field.number);
+        count += 1;
+        end = field.end;
+        if field.last {
+            return TextLine {
+                count,
+                end,
+                good: true,
+            };
+        }
+        line = false;
+    }
+    TextLine {
+        count,
+        end,
+        good: false,
+    }
 }
 
 // The numbers of a direction's text: how many there are, and as many as `row` has places for.
@@ -341,19 +342,4 @@ pub fn read_direction_row(text: &[u8], row: &mut [i32]) -> usize
     ensures { λ _. ⌜ now (row .exit) ≡ filledWith (directionNumbers (now (text .entry))) (now (row .entry)) ⌝ }
 {
     write_fields(false, false, text, row)
-}
-
-// The place behind the byte 10 that ends the line at `at`; the text's end, if no byte 10 follows.
-pub fn line_end(text: &[u8], at: usize) -> usize
-    ensures { λ r. ⌜ r ≡ at + lineLength (drop at (now (text .entry))) ⌝ }
-{
-    let mut i = at;
-    while i < text.len() {
-        let b = text[i];
-        i += 1;
-        if b == 10 {
-            return i;
-        }
-    }
-    i
 }
