@@ -2,7 +2,7 @@
 -- success says of the reply and of the lent list.
 use Prim.Native.Nat.{ℕ, zero, suc, _≤_}
 use native.Mathlib.Omega.{arith}
-use mathlib.Core.Path.{_≡_, refl}
+use mathlib.Core.Path.{_≡_, refl, sym, ap, _∙_}
 use mathlib.Core.Bool.{true, false}
 use mathlib.Core.List.{List}
 use lib.Dec.{leb}
@@ -10,28 +10,35 @@ use lib.IntN.{ℤ}
 use lib.ListN.{length}
 use Rattle.notes.specs.Questions.{_unless_, number}
 use Rattle.notes.specs.Book.{isBookText, textLines, linesRefusal, loadedOf, readRefusal}
-use Rattle.notes.specs.Reply.{refused, done, writtenOver, writtenIf, readBook, readBookList}
+use Rattle.notes.specs.Reply.{refused, done, reply, readReply, writtenOver, writtenIf, readBook, readBookList}
 use Rattle.notes.specs.declared.Refusal.{Refusal}
-use Rattle.reading.proofs.Numbered.{number-from, refused-first, refused-reply}
+use Rattle.notes.specs.declared.Read.{Read}
+use Rattle.notes.specs.declared.Read.the-variants.{Refused}
+use Rattle.notes.proofs.Chains.{first-passes, rest-passes, test-passes, refused-is}
+use Rattle.reading.specs.Text.{textRefusal}
+use Rattle.reading.proofs.Numbered.{number-from, refused-before-all, refused-reply}
 
 module _ (t : List ℕ) (places : ℕ) where
-  pub no-text : isBookText t ≡ false → readRefusal t places ≡ 1
+  -- questions 1 to 6 refuse
+  pub text-refused : (refusal : Refusal) → textRefusal t ≡ number refusal → readRefusal t places ≡ number refusal
   unfolding readRefusal
-  no-text e = rw e
+  text-refused refusal e = refused-before-all refusal (1 unless isBookText t) (linesRefusal (textLines t)) (7 unless leb (length (loadedOf t)) places) e
 
-  module _ (text : isBookText t ≡ true) where
-    pub no-lines : (refusal : Refusal) → linesRefusal (textLines t) ≡ number refusal → readRefusal t places ≡ number refusal
+  -- they pass
+  module _ (e : textRefusal t ≡ 0) where
+    pub text-is : isBookText t ≡ true
+    text-is = test-passes 0 (isBookText t) (first-passes (1 unless isBookText t) (linesRefusal (textLines t)) e)
+
+    lines-are : linesRefusal (textLines t) ≡ 0
+    lines-are = rest-passes (1 unless isBookText t) (linesRefusal (textLines t)) e
+
+    pub no-room : leb (length (loadedOf t)) places ≡ false → readRefusal t places ≡ 7
     unfolding readRefusal
-    no-lines refusal e = rw (text, e) (refused-first (number refusal) (7 unless leb (length (loadedOf t)) places) (number-from refusal))
+    no-room r = rw (text-is, lines-are, r)
 
-    module _ (lines : linesRefusal (textLines t) ≡ 0) where
-      pub no-room : leb (length (loadedOf t)) places ≡ false → readRefusal t places ≡ 7
-      unfolding readRefusal
-      no-room e = rw (text, lines, e)
-
-      pub has-room : leb (length (loadedOf t)) places ≡ true → readRefusal t places ≡ 0
-      unfolding readRefusal
-      has-room e = rw (text, lines, e)
+    pub has-room : leb (length (loadedOf t)) places ≡ true → readRefusal t places ≡ 0
+    unfolding readRefusal
+    has-room r = rw (text-is, lines-are, r)
 
 -- ════ the reply and the list
 
@@ -52,3 +59,11 @@ module _ (t : List ℕ) (lent : List ℤ) where
       → (done n ≡ readBook t (length lent)) × (writtenOver (loadedOf t) lent ≡ readBookList t lent)
   unfolding readBook readBookList
   done-so n c e = rw (e, c) (refl, refl)
+
+  -- an answer that refuses before the list is asked
+  pub refused-text : (r : Read) (refusal : Refusal) → r ≡ Refused refusal → readReply r ≡ reply (textRefusal t) (length (loadedOf t))
+      → (readReply r ≡ readBook t (length lent)) × (lent ≡ readBookList t lent)
+  refused-text r refusal q e =
+      let k = refused-is (textRefusal t) (number refusal) (length (loadedOf t)) (sym e ∙ ap readReply q) in
+      let s = refused-so refusal (text-refused t (length lent) refusal k) in
+      (ap readReply q ∙ s .0, s .1)

@@ -7,14 +7,16 @@ use mathlib.Core.List.{List}
 use borrow.Author.Tests.{eq-eqb, ne-eqb}
 use lib.Dec.{eqb}
 use lib.IntN.{ℤ}
+use lib.ListN.{length}
 use Rattle.notes.specs.Questions.{number}
-use Rattle.notes.specs.Book.{Book, bookRefusal}
-use Rattle.notes.specs.Reply.{reply, checkedReply, checkBook}
+use Rattle.notes.specs.Book.{Book, isBookText, textLines, loadedOf, linesRefusal, bookRefusal}
+use Rattle.notes.specs.Reply.{reply, readReply, checkedReply, checkBook}
 use Rattle.notes.specs.declared.Checked.{Checked}
 use Rattle.notes.specs.declared.Checked.the-variants.{Passed, Refused as CheckRefused}
 use Rattle.notes.specs.declared.Refusal.{Refusal}
 use Rattle.notes.proofs.Chains.{reply-done, done-passes, refused-is}
 use Rattle.reading.specs.Loaded.{Answered, refusalOf, replied}
+use Rattle.reading.specs.Text.{textRefusal, countedAs}
 use Rattle.reading.specs.declared.load.Loaded.{Loaded}
 use Rattle.reading.specs.declared.load.Loaded.the-variants.{Book as Passes, Refused}
 use Rattle.reading.proofs.Numbered.{number-from, refused-reply}
@@ -24,6 +26,12 @@ use Rattle.reading.proofs.Numbered.{number-from, refused-reply}
 pub answer-reply : (k : ℕ) (book : Book) (grams : List ℤ) (heads links : List ℕ) (r : Loaded) → Answered k book grams heads links r → checkedReply (replied r) ≡ reply k tt
 answer-reply k book grams heads links (Passes s) a = sym (reply-done k tt (a .passes))
 answer-reply k book grams heads links (Refused refusal) a = refused-reply refusal k tt a
+
+-- the same of a text, with the count of its numbers
+pub answer-counted : (t : List ℕ) (count : ℕ) (book : Book) (grams : List ℤ) (heads links : List ℕ) (r : Loaded) → isBookText t ≡ true → count ≡ length (loadedOf t)
+    → Answered (linesRefusal (textLines t)) book grams heads links r → readReply (countedAs r count) ≡ reply (textRefusal t) (length (loadedOf t))
+answer-counted t count book grams heads links (Passes s) i c a = rw (c, i) (sym (reply-done (linesRefusal (textLines t)) (length (loadedOf t)) (a .passes)))
+answer-counted t count book grams heads links (Refused refusal) i c a = rw i (refused-reply refusal (linesRefusal (textLines t)) (length (loadedOf t)) a)
 
 -- a reply's number is the chain's
 pub reply-number : (k : ℕ) (r : Checked) → checkedReply r ≡ reply k tt → k ≡ refusalOf r

@@ -1,77 +1,125 @@
--- A survey's walk over a text's lines: what is known of the lines passed, with the lines that are left, is what is known of all lines.
-use Prim.Native.Nat.{ℕ, _-_, _/_, _≤_}
+-- A survey's walk over a text's lines: what is known of the lines passed, with the lines that are left, is what is known of all
+-- lines, where the text is a book's; and it is one where every line is good.
+use Prim.Native.Nat.{ℕ, _+_, _/_, _≤_, _<_}
 use native.Mathlib.Omega.{arith}
+use native.Mathlib.Nat.{zero-add}
 use mathlib.Core.Path.{_≡_, refl, sym, _∙_, ap}
-use mathlib.Core.Bool.{true, false}
-use mathlib.Core.List.{List, [], _∷_}
-use lib.Dec.{eqb}
+use mathlib.Core.Bool.{Bool, true, false, _&&_}
+use mathlib.Core.List.{List, []}
 use lib.IntN.{ℤ}
-use lib.ListN.{length, take, drop, length-take}
+use lib.ListN.{length, drop, length-append, drop-of-length-le}
 use Rattle.laws.specs.Lists.{all}
-use Rattle.laws.proofs.Tests.{clash, by-test}
+use Rattle.laws.proofs.Tests.{clash}
 use Rattle.notes.specs.Book.{isWhole, isBookText, textLines, loadedOf}
-use Rattle.text.specs.Scan.{lineStart, atLine}
-use Rattle.text.proofs.Form.{no-book, book-text}
-use Rattle.text.proofs.Lines.{At, Next, at-start, at-end, all-lines}
+use Rattle.text.specs.Scan.{Line, run, atLine, emitLine}
+use Rattle.text.specs.Fields.{RowRead}
+use Rattle.text.specs.declared.TextLine.{TextLine}
+use Rattle.text.proofs.Form.{book-text, book-run}
+use Rattle.text.proofs.Lines.{At, at-start, at-end, loaded-end}
+use Rattle.text.proofs.InRow.{NextRow, next-row, emit-few}
+use Rattle.text.proofs.Whole.{four-numbers}
 use Rattle.book.specs.declared.survey.Survey.{Survey}
 use Rattle.book.specs.Survey.{fresh, withLine, surveyFrom, Few}
 use Rattle.book.specs.Grams.{withGram, gramsFrom}
 use Rattle.book.proofs.Counts.{few-line, few-more}
 use Rattle.book.proofs.Triples.{gram-long}
-use Rattle.reading.specs.Loaded.{WholeAs}
+use Rattle.reading.specs.Text.{WholeText}
 
--- a line has two bytes at least: so even of the longest text there are not too many lines to count
-one-byte : (b : ℕ) → atLine (lineStart true b) ≡ false
-one-byte b =
-    by-test (eqb b 66) (λ e. rw e)
-    (λ e. by-test (eqb b 80) (λ f. rw (e, f))
-    (λ f. by-test (eqb b 84) (λ g. rw (e, f, g)) (λ g. rw (e, f, g))))
+-- the numbers of the line at `at`
+abbrev pub numbersAt : List ℕ → ℕ → List ℤ
+numbersAt text at = emitLine true Line (drop at text)
 
-two-bytes : (t : List ℕ) → isBookText t ≡ true → 2 ≤ length t
-two-bytes [] h = clash h (sym (no-book [] refl))
-two-bytes (b ∷ []) h = clash (book-text (b ∷ []) (omega arith) ∙ h) (one-byte b)
-two-bytes (b ∷ c ∷ t) h = omega arith
-
--- the invariant: the lines before `at` were noted in `acc` and `grams`, and `row` has a place for each number of a whole line
-pub record Walked (text : List ℕ) (grams₀ : List ℤ) (acc : Survey) (grams row : List ℤ) (at : ℕ) : Type 0 where
+-- of a book's text, the lines before `at` were noted in `acc`, `grams` and `count`
+pub record Noted (text : List ℕ) (grams₀ : List ℤ) (acc : Survey) (grams : List ℤ) (count at : ℕ) : Type 0 where
   pub line : At text at
-  pub few : Few acc (at / 2)
-  pub long : length grams ≡ length grams₀
-  pub places : length row ≡ 20
   pub surveyed : surveyFrom acc (textLines (drop at text)) ≡ surveyFrom fresh (textLines text)
   pub gathered : gramsFrom grams (acc .ts) (textLines (drop at text)) ≡ gramsFrom grams₀ 0 (textLines text)
   pub asked : all isWhole (textLines (drop at text)) ≡ all isWhole (textLines text)
+  pub total : count + length (loadedOf (drop at text)) ≡ length (loadedOf text)
 
-pub walk-start : (text : List ℕ) (grams row : List ℤ) → isBookText text ≡ true → length row ≡ 20 → Walked text grams fresh grams row 0
-walk-start text grams row t l = record { line = at-start text t; few = omega arith; long = refl; places = l; surveyed = refl; gathered = refl; asked = refl }
+-- the invariant: the lines before `at` are good; they were noted, and `row` has a place for each number of a whole line
+pub record Walked (text : List ℕ) (grams₀ : List ℤ) (acc : Survey) (grams row : List ℤ) (count at : ℕ) : Type 0 where
+  pub ends : atLine (run true Line (drop at text)) ≡ atLine (run true Line text)
+  pub noted : isBookText text ≡ true → Noted text grams₀ acc grams count at
+  pub within : at ≤ length text
+  pub few : Few acc (at / 2)
+  pub short : count ≤ at
+  pub long : length grams ≡ length grams₀
+  pub places : length row ≡ 20
 
--- the line from `at` to e is whole
-pub walk-next : {text : List ℕ} {grams₀ grams row row′ : List ℤ} {acc : Survey} {at e : ℕ} → Walked text grams₀ acc grams row at → Next text at e
-    → isWhole (loadedOf (take (e - at) (drop at text))) ≡ true → length row′ ≡ 20
-    → Walked text grams₀ (withLine acc (loadedOf (take (e - at) (drop at text)))) (withGram grams (acc .ts) (loadedOf (take (e - at) (drop at text)))) row′ e
-unfolding surveyFrom gramsFrom withLine
-walk-next {text} {grams₀} {grams} {row} {row′} {acc} {at} {e} w n t l =
-    record {
-      line = n .then;
-      few = few-more (few-line acc (loadedOf (take (e - at) (drop at text))) (at / 2) (w .few)) (omega (arith, n .more, two-bytes (take (e - at) (drop at text)) (n .part), length-take (e - at) (drop at text)));
-      long = gram-long grams (loadedOf (take (e - at) (drop at text))) (acc .ts) ∙ w .long;
-      places = l;
-      surveyed = sym (ap (surveyFrom acc) (n .lines)) ∙ w .surveyed;
-      gathered = sym (ap (gramsFrom grams (acc .ts)) (n .lines)) ∙ w .gathered;
-      asked = sym (all-lines isWhole true n t) ∙ w .asked;
-    }
+pub walk-start : (text : List ℕ) (grams row : List ℤ) → length row ≡ 20 → Walked text grams fresh grams row 0 0
+walk-start text grams row l = record {
+  ends = refl;
+  noted = λ t. record { line = at-start text t; surveyed = refl; gathered = refl; asked = refl; total = zero-add (length (loadedOf text)) };
+  within = omega arith;
+  few = omega arith;
+  short = omega arith;
+  long = refl;
+  places = l;
+}
 
--- it is not
-pub walk-broken : {text : List ℕ} {grams₀ grams row : List ℤ} {acc : Survey} {at e : ℕ} → Walked text grams₀ acc grams row at → Next text at e
-    → isWhole (loadedOf (take (e - at) (drop at text))) ≡ false → all isWhole (textLines text) ≡ false
-walk-broken w n t = sym (w .asked) ∙ all-lines isWhole false n t
+-- a whole line takes some bytes
+pub row-later : {text : List ℕ} {at : ℕ} {row row′ : List ℤ} {r : TextLine} → RowRead text at row row′ r → r .good ≡ true → isWhole (numbersAt text at) ≡ true → at < r .end
+row-later {text} {at} f g e = omega (arith, f .long g, emit-few true Line (drop at text), four-numbers (numbersAt text at) e)
 
-pub walk-end : {text : List ℕ} {grams₀ grams row : List ℤ} {acc : Survey} {at : ℕ} → Walked text grams₀ acc grams row at → length text ≤ at → WholeAs (textLines text) grams₀ grams acc
+module _ {text : List ℕ} {grams₀ grams row row′ : List ℤ} {acc : Survey} {count at : ℕ} (w : Walked text grams₀ acc grams row count at) (r : TextLine) (f : RowRead text at row row′ r) where
+  -- a line that is not good: the text is no book's
+  pub walk-bad : r .good ≡ false → isBookText text ≡ true → all isWhole (textLines text) ≡ false
+  walk-bad g t =
+      clash (book-run text t)
+      (sym (w .ends) ∙ f .ends ∙ ap (λ (x : Bool). x && atLine (run true Line (drop (r .end) text))) g)
+
+  module _ (h : at < length text) (g : r .good ≡ true) where
+    row-next : isBookText text ≡ true → NextRow text at (r .end)
+    row-next t = next-row text at (r .end) (w .noted t .line) h (f .long g)
+
+    -- a line that is not whole
+    pub walk-broken : isWhole (numbersAt text at) ≡ false → isBookText text ≡ true → all isWhole (textLines text) ≡ false
+    walk-broken e t =
+        sym (w .noted t .asked) ∙ ap (all isWhole) (row-next t .lines)
+        ∙ ap (λ (x : Bool). x && all isWhole (textLines (drop (r .end) text))) e
+
+    -- a line that is
+    module _ (e : isWhole (numbersAt text at) ≡ true) where
+      noted-next : isBookText text ≡ true → Noted text grams₀ (withLine acc (numbersAt text at)) (withGram grams (acc .ts) (numbersAt text at)) (count + r .count) (r .end)
+      unfolding surveyFrom gramsFrom withLine
+      noted-next t = let p = w .noted t in let n = row-next t in record {
+        line = n .then;
+        surveyed = sym (ap (surveyFrom acc) (n .lines)) ∙ p .surveyed;
+        gathered = sym (ap (gramsFrom grams (acc .ts)) (n .lines)) ∙ p .gathered;
+        asked = sym (ap (all isWhole) (n .lines) ∙ ap (λ (x : Bool). x && all isWhole (textLines (drop (r .end) text))) e) ∙ p .asked;
+        total = omega (arith, p .total, f .counted g, ap length (n .loaded), length-append (numbersAt text at) (loadedOf (drop (r .end) text)));
+      }
+
+      -- it has four bytes at least: so even of the longest text there are not too many lines to count
+      pub walk-next : Walked text grams₀ (withLine acc (numbersAt text at)) (withGram grams (acc .ts) (numbersAt text at)) row′ (count + r .count) (r .end)
+      walk-next =
+          let four = four-numbers (numbersAt text at) e in
+          let most = emit-few true Line (drop at text) in
+          record {
+            ends = sym (f .ends ∙ ap (λ (x : Bool). x && atLine (run true Line (drop (r .end) text))) g) ∙ w .ends;
+            noted = noted-next;
+            within = f .within g;
+            few = few-more (few-line acc (numbersAt text at) (at / 2) (w .few)) (omega (arith, four, most, f .long g));
+            short = omega (arith, w .short, most, f .long g, f .counted g);
+            long = gram-long grams (numbersAt text at) (acc .ts) ∙ w .long;
+            places = f .same ∙ w .places;
+          }
+
+-- at the end of a text that is not empty
+pub walk-end : {text : List ℕ} {grams₀ grams row : List ℤ} {acc : Survey} {count at : ℕ} → Walked text grams₀ acc grams row count at → length text ≤ at → (length text ≡ 0 → ⊥)
+    → WholeText text grams₀ grams acc count
 unfolding surveyFrom gramsFrom
-walk-end {text} {grams₀} {grams} {row} {acc} {at} w h =
+walk-end {text} {grams₀} {grams} {row} {acc} {count} {at} w h s =
+    let t : isBookText text ≡ true = sym (book-text text s) ∙ sym (w .ends) ∙ ap (λ (x : List ℕ). atLine (run true Line x)) (drop-of-length-le text h) in
+    let p = w .noted t in
     let none : textLines (drop at text) ≡ [] = at-end text at h in
     record {
-      whole = sym (w .asked) ∙ ap (all isWhole) none;
-      surveyed = sym (ap (surveyFrom acc) none) ∙ w .surveyed;
-      gathered = sym (ap (gramsFrom grams (acc .ts)) none) ∙ w .gathered;
+      formed = t;
+      lines = record {
+        whole = sym (p .asked) ∙ ap (all isWhole) none;
+        surveyed = sym (ap (surveyFrom acc) none) ∙ p .surveyed;
+        gathered = sym (ap (gramsFrom grams (acc .ts)) none) ∙ p .gathered;
+      };
+      counted = omega (arith, p .total, ap length (loaded-end text at h));
     }

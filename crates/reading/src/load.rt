@@ -51,7 +51,7 @@ fn compare(s: Survey, grams: &[i32], heads: &mut [u16], links: &mut [u16]) -> Lo
 }
 
 // Questions 3 to 6, of lines that passed 2.
-fn settle_whole(s: Survey, grams: &[i32], heads: &mut [u16], links: &mut [u16]) -> Loaded
+pub fn settle_whole(s: Survey, grams: &[i32], heads: &mut [u16], links: &mut [u16]) -> Loaded
     requires { ⌜ Room (now grams) (now heads) (now links) 8_192 ⌝ }
     ensures { λ r. ⌜ ((lines : List (List ℤ)) (grams₀ : List ℤ) → WholeAs lines grams₀ (now (grams .entry)) s → Answered (linesRefusal lines) (bookOfLines lines) (now (grams .entry)) (now (heads .exit)) (now (links .exit)) r) ⌝ }
 {

@@ -13,9 +13,7 @@ use Rattle.laws.proofs.Tests.{by-test, clash}
 use Rattle.notes.specs.Numerals.{isDigit, isPositive, isNumber}
 use Rattle.notes.specs.Book.{kindOfLetter, isTextLine, isBookText}
 use Rattle.notes.specs.Direction.{isDirectionText}
-use Rattle.text.specs.Scan.{moreDigits, next, lineStart, run, atLine}
-use Rattle.text.specs.declared.Scan.{Scan}
-use Rattle.text.specs.declared.Scan.the-variants.{Line, Kind, Field, Minus, Digits, Broken}
+use Rattle.text.specs.Scan.{Scan, Line, Kind, Field, Minus, Digits, Broken, moreDigits, next, lineStart, run, atLine}
 use Rattle.text.proofs.Cut.{Cut, line, cut, Sort, sort, isBlank, areNumbers, isRest, book-is, book-empty, direction-is}
 use Rattle.text.proofs.Digits.{tail, positive, natural}
 
@@ -176,6 +174,10 @@ no-book (b ∷ bs) e = absurd (omega arith)
 pub book-text : (t : List ℕ) → (length t ≡ 0 → ⊥) → atLine (run true Line t) ≡ isBookText t
 book-text [] h = absurd (h refl)
 book-text (b ∷ bs) h = accepted true (b ∷ bs) Line ∙ sym (book-is b bs)
+
+pub book-run : (t : List ℕ) → isBookText t ≡ true → atLine (run true Line t) ≡ true
+book-run [] h = refl
+book-run (b ∷ bs) h = book-text (b ∷ bs) (λ e. omega arith) ∙ h
 
 -- question 8
 pub direction-text : (t : List ℕ) → atLine (run false Field t) ≡ isDirectionText t

@@ -1,4 +1,3 @@
-pub mod Laws
 pub mod Cut
 pub mod Digits
 pub mod Form
@@ -6,3 +5,5 @@ pub mod Numbers
 pub mod Row
 pub mod Lines
 pub mod Whole
+pub mod Fields
+pub mod InRow

@@ -8,7 +8,7 @@ use native.Mathlib.Omega.{arith}
 use lib.IntN.{ℤ}
 use lib.ListN.{length, take, drop, length-drop, drop-of-length-le}
 use lib.Seq.{drop-drop}
-use Rattle.laws.specs.Lists.{all, isEmpty, concat}
+use Rattle.laws.specs.Lists.{isEmpty, concat}
 use Rattle.laws.proofs.Tests.{both, clash}
 use Rattle.notes.specs.Book.{isTextLine, lineNumbers, isBookText, textLines, loadedOf}
 use Rattle.notes.specs.Numerals.{linesOf, split}
@@ -151,11 +151,6 @@ next-line t at e a h q =
       then = record { good = ap (λ (x : List ℕ). isRest true (left x)) (sym u) ∙ s .rest; within = omega (arith, s .inside) };
       more = omega (arith, s .some);
     }
-
--- a test of every line, by the line from `at` to e and by the lines after it
-pub all-lines : (test : List ℤ → Bool) (b : Bool) {t : List ℕ} {at e : ℕ} → Next t at e → test (loadedOf (take (e - at) (drop at t))) ≡ b
-    → all test (textLines (drop at t)) ≡ b && all test (textLines (drop e t))
-all-lines test b {t} {at} {e} n q = ap (all test) (n .lines) ∙ ap (λ (x : Bool). x && all test (textLines (drop e t))) q
 
 -- the numbers of the line from `at` to e, and those of the lines after it
 pub loaded-next : {t : List ℕ} {at e : ℕ} → Next t at e → loadedOf (drop at t) ≡ loadedOf (take (e - at) (drop at t)) ++ loadedOf (drop e t)

@@ -12,9 +12,7 @@ use Rattle.laws.proofs.Tests.{both, clash}
 use Rattle.notes.specs.Numerals.{isDigit, digitsValue, valueOf}
 use Rattle.notes.specs.Book.{lineNumbers, isBookText, textLines, loadedOf}
 use Rattle.notes.specs.Direction.{isDirectionText, directionNumbers}
-use Rattle.text.specs.Scan.{moreDigits, next, lineStart, afterNumber, run, atLine, signed, scanned, emit}
-use Rattle.text.specs.declared.Scan.{Scan}
-use Rattle.text.specs.declared.Scan.the-variants.{Line, Kind, Field, Minus, Digits, Broken}
+use Rattle.text.specs.Scan.{Scan, Line, Kind, Field, Minus, Digits, Broken, moreDigits, next, lineStart, afterNumber, run, atLine, signed, scanned, emit}
 use Rattle.text.proofs.Cut.{Cut, line, cut, Sort, sort, areNumbers, isRest, book-is, book-empty, direction-is, lines-are}
 use Rattle.text.proofs.Form.{accepted, stop, no-line, kindOfByte, kind-is, letterBy, numberBy, positiveBy, digitsBy}
 

@@ -58,7 +58,7 @@ filled-room [] old h = refl
 filled-room (z ∷ new) [] h = absurd (omega arith)
 filled-room (z ∷ new) (y ∷ old) h = ap (λ (x : List ℤ). z ∷ x) (filled-room new old (omega arith))
 
--- `&row[..n]` after `n = read_row(line, &mut row)`: the line's numbers
+-- the first n of a row that took n numbers are those numbers
 pub filled-take : (new old : List ℤ) (n : ℕ) → n ≡ length new → n ≤ length old → take n (filledWith new old) ≡ new
 unfolding filledWith
 filled-take [] old n e h = rw e

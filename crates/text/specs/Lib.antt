@@ -1,2 +1,3 @@
 pub mod Scan
 pub mod Walk
+pub mod Fields

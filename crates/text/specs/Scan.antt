@@ -1,5 +1,5 @@
 -- A text read a byte at a time: what may follow what has been read, and the number that a comma or a byte 10 ends.
--- What a text is and says is stated in notes' specs (Numerals, Book, Direction); proofs/Bridge has that both agree.
+-- What a text is and says is stated in notes' specs (Numerals, Book, Direction); proofs/Form and proofs/Numbers have that both agree.
 use Prim.Native.Nat.{ℕ, _+_, _*_, _-_}
 use mathlib.Core.Bool.{Bool, true, false, cond, _||_}
 use mathlib.Core.List.{List, [], _∷_}
@@ -7,8 +7,21 @@ use lib.Dec.{eqb}
 use lib.IntN.{ℤ, pos, negℤ}
 use Rattle.notes.specs.Questions.{within}
 use Rattle.notes.specs.Numerals.{newline, comma, minus, zeroDigit, isDigit}
-use Rattle.text.specs.declared.Scan.{Scan}
-use Rattle.text.specs.declared.Scan.the-variants.{Line, Kind, Field, Minus, Digits, Broken}
+
+-- what has been read of the line so far
+pub data Scan : Type 0 where
+  -- nothing of the line
+  Line : Scan
+  -- a line's letter; B, P, T are 1, 2, 3
+  Kind : ℤ → Scan
+  -- a comma, so that a number has to follow
+  Field : Scan
+  -- a minus, so that a digit 1 to 9 has to follow
+  Minus : Scan
+  -- digits that make this value, after a minus or not
+  Digits : Bool → ℕ → Scan
+  -- what no text continues
+  Broken : Scan
 
 -- ════ what may follow. `book`: the text is a book's, of lines that begin with a letter; else it is a direction's, of one line
 
@@ -18,6 +31,10 @@ lineStart book b =
     cond book
     (cond (eqb b 66) (Kind (pos 1)) (cond (eqb b 80) (Kind (pos 2)) (cond (eqb b 84) (Kind (pos 3)) Broken)))
     Broken
+
+-- its kind, and 0 of another byte
+abbrev pub letterKind : ℕ → ℤ
+letterKind b = cond (eqb b 66) (pos 1) (cond (eqb b 80) (pos 2) (cond (eqb b 84) (pos 3) (pos 0)))
 
 abbrev pub afterKind : ℕ → Scan
 afterKind b = cond (eqb b comma) Field Broken
@@ -78,15 +95,6 @@ scanned Minus = pos 0
 scanned (Digits isMinus v) = signed isMinus v
 scanned Broken = pos 0
 
--- the digits' value without its sign
-abbrev pub magnitude : Scan → ℕ
-magnitude Line = 0
-magnitude (Kind k) = 0
-magnitude Field = 0
-magnitude Minus = 0
-magnitude (Digits isMinus v) = v
-magnitude Broken = 0
-
 -- a comma or the byte 10: it ends a number
 abbrev pub isMark : ℕ → Bool
 isMark b = eqb b comma || eqb b newline
@@ -96,7 +104,11 @@ abbrev pub emit : Bool → Scan → List ℕ → List ℤ
 emit book s [] = []
 emit book s (b ∷ bs) = cond (isMark b) (scanned s ∷ emit book (next book s b) bs) (emit book (next book s b) bs)
 
--- how many marks there are
-abbrev pub marks : List ℕ → ℕ
-marks [] = 0
-marks (b ∷ bs) = cond (isMark b) (marks bs + 1) (marks bs)
+-- ════ a line of the text
+
+-- the numbers that the marks end up to the first byte 10, that one included
+abbrev pub emitLine : Bool → Scan → List ℕ → List ℤ
+emitLine book s [] = []
+emitLine book s (b ∷ bs) =
+    cond (eqb b newline) (scanned s ∷ [])
+    (cond (eqb b comma) (scanned s ∷ emitLine book (next book s b) bs) (emitLine book (next book s b) bs))

@@ -1,30 +1,38 @@
 // The texts of books and directions: questions 1 and 8, their numbers, and a book's lines one at a time.
-// One automaton looks at the bytes (`step`), and each function here is one walk with it.
+// A text is read a field at a time (`read_field`), and each function here is one walk over its fields.
 ghost use mathlib.Core.Path.{_≡_};
-ghost use mathlib.Core.Bool.{true};
-ghost use Prim.Native.Nat.{_+_, _≤_};
-ghost use lib.ListN.{length, drop, set};
+ghost use mathlib.Core.Bool.{Bool, true, false, _&&_};
+ghost use Prim.Native.Nat.{_-_, _≤_, _<_};
+ghost use lib.ListN.{length, set};
 ghost use Rattle.notes.specs.Numerals.{isDigit};
 ghost use Rattle.notes.specs.Book.{isBookText, loadedOf};
 ghost use Rattle.notes.specs.Direction.{isDirectionText, directionNumbers};
 ghost use Rattle.notes.specs.Reply.{writtenOver};
-ghost use Rattle.text.specs.Scan.{lineStart, afterKind, fieldStart, afterMinus, afterNumber, moreDigits, afterDigits, next, run, atLine, signed, scanned, magnitude, isMark, emit, marks};
-ghost use Rattle.text.specs.Walk.{lineLength, filledWith};
+ghost use Rattle.text.specs.Scan.{Line, Field, Minus, Digits, moreDigits, run, atLine, signed, letterKind, emit};
+ghost use Rattle.text.specs.Fields.{start, noMore, DigitsRead, FieldRead, RowRead};
+ghost use Rattle.text.specs.Walk.{filledWith};
 
-// What has been read of the line so far.
-enum Scan {
-    // Nothing of the line.
-    Line,
-    // A line's letter; B, P, T are 1, 2, 3.
-    Kind(i32),
-    // A comma, so that a number has to follow.
-    Field,
-    // A minus, so that a digit 1 to 9 has to follow.
-    Minus,
-    // Digits that make this value, after a minus or not.
-    Digits { minus: bool, value: u32 },
-    // What no text continues.
-    Broken,
+// Digits that were read: the value that they make, and the place behind them.
+struct Numeral {
+    value: u32,
+    end: usize,
+}
+
+// A field that was read, a line's letter or a number: its number, and the place behind the mark that ends it. It is good where it
+// is as it should be, with its mark; it is its line's last where the mark is the byte 10.
+struct Piece {
+    number: i32,
+    end: usize,
+    good: bool,
+    last: bool,
+}
+
+// A line of a book's text that was read: how many numbers it has, its kind among them, and the place behind it. It is good where
+// each of its fields is, and the byte 10 ends it.
+pub struct TextLine {
+    pub count: usize,
+    pub end: usize,
+    pub good: bool,
 }
 
 // A digit 0 to 9.
@@ -34,79 +42,6 @@ fn is_digit(b: u8) -> bool
     48 <= b && b <= 57
 }
 
-// A line begins: with a letter in a book, and a direction has no second line.
-fn line_start(book: bool, b: u8) -> Scan
-    ensures { λ r. ⌜ r ≡ lineStart book b ⌝ }
-{
-    if book {
-        if b == 66 {
-            return Scan::Kind(1);
-        }
-        if b == 80 {
-            return Scan::Kind(2);
-        }
-        if b == 84 {
-            return Scan::Kind(3);
-        }
-    }
-    Scan::Broken
-}
-
-// A comma follows a letter.
-fn after_kind(b: u8) -> Scan
-    ensures { λ r. ⌜ r ≡ afterKind b ⌝ }
-{
-    if b == 44 {
-        return Scan::Field;
-    }
-    Scan::Broken
-}
-
-// A number begins, with a minus or a digit.
-fn field_start(b: u8) -> Scan
-    ensures { λ r. ⌜ r ≡ fieldStart b ⌝ }
-{
-    if b == 45 {
-        return Scan::Minus;
-    }
-    if is_digit(b) {
-        return Scan::Digits {
-            minus: false,
-            value: b as u32 - 48,
-        };
-    }
-    Scan::Broken
-}
-
-// A digit 1 to 9 follows a minus.
-fn after_minus(b: u8) -> Scan
-    ensures { λ r. ⌜ r ≡ afterMinus b ⌝ }
-{
-    if b == 48 {
-        return Scan::Broken;
-    }
-    if is_digit(b) {
-        return Scan::Digits {
-            minus: true,
-            value: b as u32 - 48,
-        };
-    }
-    Scan::Broken
-}
-
-// A comma or the byte 10 follows a number.
-fn after_number(b: u8) -> Scan
-    ensures { λ r. ⌜ r ≡ afterNumber b ⌝ }
-{
-    if b == 44 {
-        return Scan::Field;
-    }
-    if b == 10 {
-        return Scan::Line;
-    }
-    Scan::Broken
-}
-
 // Whether a digit may follow the digits that make v: none follows a 0, nor seven digits. So no count of digits is kept.
 fn more_digits(v: u32) -> bool
     ensures { λ r. ⌜ r ≡ moreDigits v ⌝ }
@@ -114,46 +49,33 @@ fn more_digits(v: u32) -> bool
     1 <= v && v <= 999999
 }
 
-// A digit more, where there may be one, or the end of the number.
-fn after_digits(minus: bool, v: u32, b: u8) -> Scan
-    ensures { λ r. ⌜ r ≡ afterDigits minus v b ⌝ }
+// Whether the byte is a digit that may follow the digits that make v.
+fn goes_on(v: u32, b: u8) -> bool
+    ensures { λ r. ⌜ r ≡ isDigit b && moreDigits v ⌝ }
 {
     if is_digit(b) {
-        if more_digits(v) {
-            return Scan::Digits {
-                minus,
-                value: v * 10 + (b as u32 - 48),
-            };
+        return more_digits(v);
+    }
+    false
+}
+
+// Reads on behind the digits that make v, as far as a digit may follow.
+fn read_digits(text: &[u8], at: usize, v: u32) -> Numeral
+    requires { ⌜ v ≤ 9_999_999 ⌝ }
+    requires { ⌜ at ≤ length (now text) ⌝ }
+    ensures { λ r. ⌜ DigitsRead (now (text .entry)) at v r ⌝ }
+{
+    let mut value = v;
+    let mut end = at;
+    while end < text.len() {
+        let b = text[end];
+        if !goes_on(value, b) {
+            return Numeral { value, end };
         }
-        return Scan::Broken;
+        value = value * 10 + (b as u32 - 48);
+        end += 1;
     }
-    after_number(b)
-}
-
-// One byte more, of a book's text or of a direction's.
-fn step(book: bool, s: Scan, b: u8) -> Scan
-    ensures { λ r. ⌜ r ≡ next book s b ⌝ }
-{
-    match s {
-        Scan::Line => line_start(book, b),
-        Scan::Kind(_) => after_kind(b),
-        Scan::Field => field_start(b),
-        Scan::Minus => after_minus(b),
-        Scan::Digits { minus, value } => after_digits(minus, value, b),
-        Scan::Broken => Scan::Broken,
-    }
-}
-
-// The number that has been read, at the mark that ends it.
-fn value(s: Scan) -> i32
-    requires { ⌜ magnitude s ≤ 9999999 ⌝ }
-    ensures { λ r. ⌜ r ≡ scanned s ⌝ }
-{
-    match s {
-        Scan::Kind(k) => k,
-        Scan::Digits { minus, value } => signed(minus, value),
-        _ => 0,
-    }
+    Numeral { value, end }
 }
 
 // The number of digits that make v, after a minus or not.
@@ -168,27 +90,158 @@ fn signed(minus: bool, v: u32) -> i32
     x
 }
 
-// Whether a line has just ended.
-fn at_line(s: Scan) -> bool
-    ensures { λ r. ⌜ r ≡ atLine s ⌝ }
+// A field that is not as it should be.
+fn no_field(at: usize) -> Piece
+    ensures { λ r. ⌜ r .good ≡ false ⌝ }
 {
-    match s {
-        Scan::Line => true,
-        _ => false,
+    Piece {
+        number: 0,
+        end: at,
+        good: false,
+        last: false,
     }
 }
 
-// What has been read after a whole text.
-fn run(book: bool, start: Scan, text: &[u8]) -> Scan
-    ensures { λ r. ⌜ r ≡ run book start (now (text .entry)) ⌝ }
+// A comma or the byte 10 has to end a number, at `at` behind all of its digits.
+fn end_number(text: &[u8], minus: bool, v: u32, at: usize) -> Piece
+    requires { ⌜ v ≤ 9_999_999 ⌝ }
+    requires { ⌜ noMore (now text) at v ⌝ }
+    ensures { λ r. ⌜ ((book : Bool) → FieldRead book (Digits minus v) (now (text .entry)) at r) ⌝ }
 {
-    let mut s = start;
-    let mut i = 0;
-    while i < text.len() {
-        s = step(book, s, text[i]);
-        i += 1;
+    if text.len() <= at {
+        return no_field(at);
     }
-    s
+    let b = text[at];
+    let number = signed(minus, v);
+    if b == 44 {
+        return Piece {
+            number,
+            end: at + 1,
+            good: true,
+            last: false,
+        };
+    }
+    if b == 10 {
+        return Piece {
+            number,
+            end: at + 1,
+            good: true,
+            last: true,
+        };
+    }
+    no_field(at)
+}
+
+// The rest of a number, behind the digit b that it begins with.
+fn rest_of_number(text: &[u8], minus: bool, b: u8, at: usize) -> Piece
+    requires { ⌜ isDigit b ≡ true ⌝ }
+    requires { ⌜ at ≤ length (now text) ⌝ }
+    ensures { λ r. ⌜ ((book : Bool) → FieldRead book (Digits minus (b - 48)) (now (text .entry)) at r) ⌝ }
+{
+    let digits = read_digits(text, at, b as u32 - 48);
+    end_number(text, minus, digits.value, digits.end)
+}
+
+// The rest of a number, behind its minus: a digit 1 to 9 follows.
+fn read_negative(text: &[u8], at: usize) -> Piece
+    ensures { λ r. ⌜ ((book : Bool) → FieldRead book Minus (now (text .entry)) at r) ⌝ }
+{
+    if text.len() <= at {
+        return no_field(at);
+    }
+    let b = text[at];
+    if b == 48 {
+        return no_field(at);
+    }
+    if !is_digit(b) {
+        return no_field(at);
+    }
+    rest_of_number(text, true, b, at + 1)
+}
+
+// A number, which begins with a minus or a digit.
+fn read_number(text: &[u8], at: usize) -> Piece
+    requires { ⌜ at < length (now text) ⌝ }
+    ensures { λ r. ⌜ ((book : Bool) → FieldRead book Field (now (text .entry)) at r) ⌝ }
+{
+    let b = text[at];
+    if b == 45 {
+        return read_negative(text, at + 1);
+    }
+    if !is_digit(b) {
+        return no_field(at);
+    }
+    rest_of_number(text, false, b, at + 1)
+}
+
+// The kind of the line that a letter begins: B, P, T are 1, 2, 3, and another byte is 0.
+fn kind_of(b: u8) -> i32
+    ensures { λ r. ⌜ r ≡ letterKind b ⌝ }
+{
+    if b == 66 {
+        return 1;
+    }
+    if b == 80 {
+        return 2;
+    }
+    if b == 84 {
+        return 3;
+    }
+    0
+}
+
+// A line's letter, in a book, with the comma that follows it; a direction has no second line.
+fn read_letter(book: bool, text: &[u8], at: usize) -> Piece
+    requires { ⌜ at < length (now text) ⌝ }
+    ensures { λ r. ⌜ FieldRead book Line (now (text .entry)) at r ⌝ }
+{
+    if !book {
+        return no_field(at);
+    }
+    let number = kind_of(text[at]);
+    if number <= 0 {
+        return no_field(at);
+    }
+    if text.len() <= at + 1 {
+        return no_field(at);
+    }
+    if text[at + 1] != 44 {
+        return no_field(at);
+    }
+    Piece {
+        number,
+        end: at + 2,
+        good: true,
+        last: false,
+    }
+}
+
+// A field, at a line's beginning or behind a comma.
+fn read_field(book: bool, line: bool, text: &[u8], at: usize) -> Piece
+    requires { ⌜ at < length (now text) ⌝ }
+    ensures { λ r. ⌜ FieldRead book (start line) (now (text .entry)) at r ⌝ }
+{
+    if line {
+        return read_letter(book, text, at);
+    }
+    read_number(text, at)
+}
+
+// Whether a text that starts at a line's beginning, or as behind a comma, has good fields and ends with a line.
+fn is_formed(book: bool, first: bool, text: &[u8]) -> bool
+    ensures { λ r. ⌜ r ≡ atLine (run book (start first) (now (text .entry))) ⌝ }
+{
+    let mut line = first;
+    let mut i: usize = 0;
+    while i < text.len() {
+        let field = read_field(book, line, text, i);
+        if !field.good {
+            return false;
+        }
+        line = field.last;
+        i = field.end;
+    }
+    line
 }
 
 // Question 1: is this a book's text?
@@ -198,40 +251,14 @@ pub fn is_book_text(text: &[u8]) -> bool
     if text.len() == 0 {
         return false;
     }
-    at_line(run(true, Scan::Line, text))
+    is_formed(true, true, text)
 }
 
 // Question 8: is this a direction's text?
 pub fn is_direction_text(text: &[u8]) -> bool
     ensures { λ r. ⌜ r ≡ isDirectionText (now (text .entry)) ⌝ }
 {
-    at_line(run(false, Scan::Field, text))
-}
-
-// A comma or the byte 10, which ends a number.
-fn is_mark(b: u8) -> bool
-    ensures { λ r. ⌜ r ≡ isMark b ⌝ }
-{
-    if b == 44 {
-        return true;
-    }
-    b == 10
-}
-
-// How many commas and bytes 10 a text has.
-fn count_marks(text: &[u8]) -> usize
-    ensures { λ r. ⌜ r ≡ marks (now (text .entry)) ⌝ }
-{
-    let mut count: usize = 0;
-    let mut i: usize = 0;
-    while i < text.len() {
-        let b = text[i];
-        i += 1;
-        if is_mark(b) {
-            count += 1;
-        }
-    }
-    count
+    is_formed(false, false, text)
 }
 
 // Puts a number at a place of a list, if the list has that place.
@@ -244,33 +271,22 @@ fn put(list: &mut [i32], n: usize, v: i32)
 }
 
 // Writes the numbers of a text at the beginning of a list, as many as it has places for, and says how many they are in all.
-fn write_marked(book: bool, start: Scan, text: &[u8], list: &mut [i32]) -> usize
-    requires { ⌜ magnitude start ≤ 9999999 ⌝ }
-    ensures { λ r. ⌜ r ≡ length (emit book start (now (text .entry))) ⌝ }
-    ensures { λ _. ⌜ now (list .exit) ≡ filledWith (emit book start (now (text .entry))) (now (list .entry)) ⌝ }
+fn write_fields(book: bool, first: bool, text: &[u8], list: &mut [i32]) -> usize
+    requires { ⌜ atLine (run book (start first) (now text)) ≡ true ⌝ }
+    ensures { λ r. ⌜ r ≡ length (emit book (start first) (now (text .entry))) ⌝ }
+    ensures { λ _. ⌜ now (list .exit) ≡ filledWith (emit book (start first) (now (text .entry))) (now (list .entry)) ⌝ }
 {
-    let mut s = start;
+    let mut line = first;
     let mut n: usize = 0;
     let mut i: usize = 0;
     while i < text.len() {
-        let b = text[i];
-        let read = s;
-        s = step(book, s, b);
-        i += 1;
-        if is_mark(b) {
-            put(list, n, value(read));
-            n += 1;
-        }
+        let field = read_field(book, line, text, i);
+        put(list, n, field.number);
+        n += 1;
+        line = field.last;
+        i = field.end;
     }
     n
-}
-
-// How many numbers a book's text has.
-pub fn count_numbers(text: &[u8]) -> usize
-    requires { ⌜ isBookText (now text) ≡ true ⌝ }
-    ensures { λ r. ⌜ r ≡ length (loadedOf (now (text .entry))) ⌝ }
-{
-    count_marks(text)
 }
 
 // Writes the numbers of a book's text at the beginning of a list that has room for them, and says how many they are.
@@ -280,16 +296,43 @@ pub fn write_numbers(text: &[u8], book: &mut [i32]) -> usize
     ensures { λ r. ⌜ r ≡ length (loadedOf (now (text .entry))) ⌝ }
     ensures { λ _. ⌜ now (book .exit) ≡ writtenOver (loadedOf (now (text .entry))) (now (book .entry)) ⌝ }
 {
-    write_marked(true, Scan::Line, text, book)
+    write_fields(true, true, text, book)
 }
 
-// The numbers of one line of a book (with its byte 10), its kind first: how many there are, and as many as `row` has places for.
-pub fn read_row(line: &[u8], row: &mut [i32]) -> usize
-    requires { ⌜ isBookText (now line) ≡ true ⌝ }
-    ensures { λ r. ⌜ r ≡ length (loadedOf (now (line .entry))) ⌝ }
-    ensures { λ _. ⌜ now (row .exit) ≡ filledWith (loadedOf (now (line .entry))) (now (row .entry)) ⌝ }
+// Reads the line of a book that starts at `at`: its numbers, its kind first, as many as `row` has places for.
+pub fn read_row(text: &[u8], at: usize, row: &mut [i32]) -> TextLine
+    requires { ⌜ at < length (now text) ⌝ }
+    ensures { λ r. ⌜ RowRead (now (text .entry)) at (now (row .entry)) (now (row .exit)) r ⌝ }
 {
-    write_marked(true, Scan::Line, line, row)
+    let mut line = true;
+    let mut count: usize = 0;
+    let mut end = at;
+    while end < text.len() {
+        let field = read_field(true, line, text, end);
+        if !field.good {
+            return TextLine {
+                count,
+                end,
+                good: false,
+            };
+        }
+        put(row, count, field.number);
+        count += 1;
+        end = field.end;
+        if field.last {
+            return TextLine {
+                count,
+                end,
+                good: true,
+            };
+        }
+        line = false;
+    }
+    TextLine {
+        count,
+        end,
+        good: false,
+    }
 }
 
 // The numbers of a direction's text: how many there are, and as many as `row` has places for.
@@ -298,20 +341,5 @@ pub fn read_direction_row(text: &[u8], row: &mut [i32]) -> usize
     ensures { λ r. ⌜ r ≡ length (directionNumbers (now (text .entry))) ⌝ }
     ensures { λ _. ⌜ now (row .exit) ≡ filledWith (directionNumbers (now (text .entry))) (now (row .entry)) ⌝ }
 {
-    write_marked(false, Scan::Field, text, row)
-}
-
-// The place behind the byte 10 that ends the line at `at`; the text's end, if no byte 10 follows.
-pub fn line_end(text: &[u8], at: usize) -> usize
-    ensures { λ r. ⌜ r ≡ at + lineLength (drop at (now (text .entry))) ⌝ }
-{
-    let mut i = at;
-    while i < text.len() {
-        let b = text[i];
-        i += 1;
-        if b == 10 {
-            return i;
-        }
-    }
-    i
+    write_fields(false, false, text, row)
 }

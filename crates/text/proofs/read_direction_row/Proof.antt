@@ -4,13 +4,14 @@ use mathlib.Core.List.{List}
 use lib.IntN.{ℤ}
 use lib.ListN.{length}
 use Rattle.text.specs.Walk.{filledWith}
+use Rattle.text.proofs.Form.{direction-text}
 use Rattle.text.proofs.Numbers.{direction-numbers}
 use borrow.Author.Needs.{needs}
 use Rattle.text.proofs.read_direction_row.Statement.{statement}
 use Rattle.text.proofs.read_direction_row.Tie as tie
 
-write-marked-requires : tie.Need-write-marked-requires
-write-marked-requires c κs = search needs
+write-fields-requires : tie.Need-write-fields-requires
+write-fields-requires c κs = direction-text (c .before .before .args .text .now) ∙ c .before .before .pre
 
 same-length : tie.Need-same-length
 same-length c = search needs
@@ -18,9 +19,9 @@ same-length c = search needs
 returns : tie.Need-returns
 returns c =
     let e = c .before .before .before .before in
-    let k = c .before .write-marked in
+    let k = c .before .write-fields in
     let q = direction-numbers (e .args .text .now) (e .pre) in
     (k .ensures .0 ∙ ap length q, k .ensures .1 ∙ ap (λ (x : List ℤ). filledWith x (e .args .row .now)) q)
 
 pub read-direction-row-spec : {M : Type 1} → statement M
-read-direction-row-spec = tie.close (tie.spec write-marked-requires same-length returns)
+read-direction-row-spec = tie.close (tie.spec write-fields-requires same-length returns)

@@ -1,12 +1,17 @@
 -- `text::signed` meets its contract: seven digits fit 32 bits on either side of 0.
+use Prim.Native.Nat.{ℕ, zero, suc, _≤_}
 use native.Mathlib.Omega.{arith}
 use lib.IntN.{pos, negℤ, +ℤ-idl}
 use mir.Syntax.{w32}
+use mir.Val.{SFits}
 use mir.ValLaws.{toZ-pos, toZ-ofZ}
-use Rattle.text.proofs.Laws.{small-neg}
 use borrow.Author.Needs.{needs}
 use Rattle.text.proofs.signed.Statement.{statement}
 use Rattle.text.proofs.signed.Tie as tie
+
+small-neg : (v : ℕ) → v ≤ 9999999 → SFits w32 (negℤ (pos v))
+small-neg zero h = record { sfits = omega arith }
+small-neg (suc n) h = record { sfits = omega arith }
 
 cast-x : tie.Need-cast-x
 cast-x c = search needs

@@ -1,0 +1,38 @@
+-- What a text of a book answers to questions 1 to 6, and its survey.
+use Prim.Native.Nat.{ℕ}
+use mathlib.Core.Path.{_≡_}
+use mathlib.Core.Bool.{true, false}
+use mathlib.Core.List.{List}
+use lib.IntN.{ℤ}
+use lib.ListN.{length}
+use Rattle.laws.specs.Lists.{all}
+use Rattle.notes.specs.Questions.{_unless_, _orelse_}
+use Rattle.notes.specs.Book.{isBookText, isWhole, textLines, loadedOf, linesRefusal}
+use Rattle.notes.specs.declared.Read.{Read}
+use Rattle.notes.specs.declared.Read.the-variants.{Numbers, Refused as ReadRefused}
+use Rattle.book.specs.declared.survey.Survey.{Survey}
+use Rattle.reading.specs.declared.load.Loaded.{Loaded}
+use Rattle.reading.specs.declared.load.Loaded.the-variants.{Book as Passes, Refused}
+use Rattle.reading.specs.declared.read.TextSurvey.{TextSurvey}
+use Rattle.reading.specs.declared.read.TextSurvey.the-variants.{Whole, Broken}
+use Rattle.reading.specs.Loaded.{WholeAs}
+
+-- questions 1 to 6
+abbrev pub textRefusal : List ℕ → ℕ
+textRefusal text = 1 unless isBookText text orelse linesRefusal (textLines text)
+
+-- it is a book's text, its lines are whole and s is their survey, and it has `count` numbers
+pub record WholeText (text : List ℕ) (grams₀ grams₁ : List ℤ) (s : Survey) (count : ℕ) : Type 0 where
+  pub formed : isBookText text ≡ true
+  pub lines : WholeAs (textLines text) grams₀ grams₁ s
+  pub counted : count ≡ length (loadedOf text)
+
+-- questions 1 and 2 of a text; where both pass, its survey
+abbrev pub TextSurveyIs : List ℕ → List ℤ → List ℤ → TextSurvey → Type 0
+TextSurveyIs text grams₀ grams₁ (Whole s count) = WholeText text grams₀ grams₁ s count
+TextSurveyIs text grams₀ grams₁ Broken = isBookText text ≡ true → all isWhole (textLines text) ≡ false
+
+-- the answer with the count of the numbers, without what a search needs
+abbrev pub countedAs : Loaded → ℕ → Read
+countedAs (Passes s) count = Numbers count
+countedAs (Refused refusal) count = ReadRefused refusal
