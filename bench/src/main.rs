@@ -1,11 +1,11 @@
 //! The library (through its C interface) beside a Rust decoder with the standard library's hash maps and a plain Rust reader,
 //! in one run: both must give the same answers, and a ratio is printed for each. Below 1.0 the library is the faster one.
 
-#[path = "../../tests/through/src/library.rs"]
+#[allow(dead_code)]
+#[path = "../../include/phrase.rs"]
 mod library;
 mod plain_reader;
 
-use library::Lent;
 use second::gen::{self, Rng};
 use std::time::{Duration, Instant};
 
@@ -41,23 +41,27 @@ fn decode(name: &str, book: &[i32], direction: &[u16], width: i64) {
         Err(code) => return println!("{name:40} refused with {code}"),
     };
     let places = states + states / 10 + 1;
-    let mut lent = Lent {
-        steps: vec![0; 3 * n],
-        words: vec![0; 8 * n],
-        store: vec![0; 8 * places],
-        report: vec![0; 4],
+    let (mut steps, mut words) = (vec![0; 3 * n], vec![0; 8 * n]);
+    let (mut store, mut report) = (vec![0; 8 * places], [0; 4]);
+    let mut ours = || {
+        library::decode(
+            book,
+            direction,
+            width,
+            &mut steps,
+            &mut words,
+            &mut store,
+            &mut report,
+        )
     };
     let turns = (2_000_000 / states.max(1)).clamp(5, 200);
     let (a, b) = side_by_side(
         turns,
-        || assert_eq!(library::decode(book, direction, width, &mut lent), 0),
+        || assert_eq!(ours(), 0),
         || assert_eq!(search(places), expected),
     );
     let answer = expected.unwrap();
-    assert_eq!(
-        (lent.report[0], lent.report[3]),
-        (answer.score, states as i64)
-    );
+    assert_eq!((report[0], report[3]), (answer.score, states as i64));
     let each = |t: Duration| t.as_nanos() as f64 / states as f64;
     println!(
         "{name:40} {states:8} {:9.3} {:9.3} {:9.0} {:9.0} {:7.2}",
@@ -77,8 +81,11 @@ fn file(name: &str) -> Vec<u8> {
 fn decoding() {
     println!("decoding                                   states   ours ms  theirs ms   ours ns/state  theirs   ratio");
     let mut rng = Rng::new(1);
-    let (small, direction) = gen::large_case(&mut rng, 6, 2, 1);
-    let small = small_part(&small, 100);
+    let (small, _) = gen::large_case(&mut rng, 6, 2, 12);
+    let (small, direction) = (
+        small_part(&small, 100),
+        [1000, 1001, 1002, 1003, 1004, 1005],
+    );
     for width in [-1, 0, 1_000, 5_000] {
         decode(
             &format!("small, 6 words, {}", said(width)),
@@ -97,10 +104,10 @@ fn decoding() {
             width,
         );
     }
-    for (n, d, per_word, width) in [(20, 4, 8, 1_000), (32, 6, 8, 1_000), (32, 6, 8, 3_000)] {
-        let (full, direction) = gen::large_case(&mut rng, n, d, per_word);
+    let (full, direction) = gen::large_case(&mut rng, 20, 4, 8);
+    for width in [3_000, 5_000, 8_000] {
         decode(
-            &format!("full, {n} words, {}", said(width)),
+            &format!("full, 20 words, {}", said(width)),
             &full,
             &direction,
             width,

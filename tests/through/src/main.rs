@@ -2,12 +2,21 @@
 //! full of garbage before a call and is compared whole afterwards. `through SEED INPUTS [LEAST]`: LEAST is how often each
 //! refusal must have been met at the end. It stops at the first difference.
 
+#[path = "../../../include/phrase.rs"]
 mod library;
 
-use library::Lent;
 use second::gen::{self, Rng, Shape};
 use second::{plain, Step};
 use std::collections::BTreeMap;
+
+/// The lists that a decode is lent to write to.
+#[derive(Clone)]
+struct Lent {
+    steps: Vec<u16>,
+    words: Vec<u16>,
+    store: Vec<i64>,
+    report: Vec<i64>,
+}
 
 /// How often each call gave each answer; 0 stands for a result.
 #[derive(Default)]
@@ -163,7 +172,15 @@ fn decode(rng: &mut Rng, case: &gen::DecodeCase, tally: &mut Tally) {
         report: garbage64(rng, places),
     };
     let mut after = before.clone();
-    let reply = library::decode(&case.book, &case.direction, case.width, &mut after);
+    let reply = library::decode(
+        &case.book,
+        &case.direction,
+        case.width,
+        &mut after.steps,
+        &mut after.words,
+        &mut after.store,
+        &mut after.report,
+    );
     let expected = case.answer();
     let code = *expected.as_ref().err().unwrap_or(&0);
     assert_eq!(reply, code as i32, "decode {case:?}");

@@ -1,4 +1,5 @@
-//! The library's calls as C has them (include/phrase.h), and each once more with slices.
+//! The library's calls for Rust: each with slices, over the calls of phrase.h, where it is said what each answers and what each list
+//! holds afterwards. Use it as a module, `#[path = ".."] mod phrase;`, and link libffi.a (example/rust shows both).
 
 extern "C" {
     fn phrase_read_book(text: *const u8, text_len: usize, book: *mut i32, book_len: usize) -> i64;
@@ -38,10 +39,12 @@ extern "C" {
     ) -> i32;
 }
 
+/// How many numbers were written, or minus the refusal.
 pub fn read_book(text: &[u8], book: &mut [i32]) -> i64 {
     unsafe { phrase_read_book(text.as_ptr(), text.len(), book.as_mut_ptr(), book.len()) }
 }
 
+/// How many words were written, or minus the refusal.
 pub fn read_direction(text: &[u8], direction: &mut [u16]) -> i64 {
     unsafe {
         phrase_read_direction(
@@ -53,6 +56,7 @@ pub fn read_direction(text: &[u8], direction: &mut [u16]) -> i64 {
     }
 }
 
+/// 0, or the refusal.
 pub fn check_book(book: &[i32]) -> i32 {
     unsafe { phrase_check_book(book.as_ptr(), book.len()) }
 }
@@ -67,6 +71,7 @@ pub fn target_part(book: &[i32], entry: usize) -> (i64, i64) {
     }
 }
 
+/// 0, or the refusal; the report gets the score.
 pub fn score(book: &[i32], direction: &[u16], steps: &[u16], report: &mut [i64]) -> i32 {
     unsafe {
         phrase_score(
@@ -82,16 +87,16 @@ pub fn score(book: &[i32], direction: &[u16], steps: &[u16], report: &mut [i64])
     }
 }
 
-/// The lists that a decode is lent to write to.
-#[derive(Clone, PartialEq, Debug)]
-pub struct Lent {
-    pub steps: Vec<u16>,
-    pub words: Vec<u16>,
-    pub store: Vec<i64>,
-    pub report: Vec<i64>,
-}
-
-pub fn decode(book: &[i32], direction: &[u16], width: i64, lent: &mut Lent) -> i32 {
+/// 0, or the refusal. Steps are three numbers each: first, last, entry. The report gets the score, and how many steps, words and states there are.
+pub fn decode(
+    book: &[i32],
+    direction: &[u16],
+    width: i64,
+    steps: &mut [u16],
+    words: &mut [u16],
+    store: &mut [i64],
+    report: &mut [i64],
+) -> i32 {
     unsafe {
         phrase_decode(
             book.as_ptr(),
@@ -99,14 +104,14 @@ pub fn decode(book: &[i32], direction: &[u16], width: i64, lent: &mut Lent) -> i
             direction.as_ptr(),
             direction.len(),
             width,
-            lent.steps.as_mut_ptr(),
-            lent.steps.len(),
-            lent.words.as_mut_ptr(),
-            lent.words.len(),
-            lent.store.as_mut_ptr(),
-            lent.store.len(),
-            lent.report.as_mut_ptr(),
-            lent.report.len(),
+            steps.as_mut_ptr(),
+            steps.len(),
+            words.as_mut_ptr(),
+            words.len(),
+            store.as_mut_ptr(),
+            store.len(),
+            report.as_mut_ptr(),
+            report.len(),
         )
     }
 }
