@@ -36,10 +36,16 @@ fn decode(name: &str, book: &[i32], direction: &[u16], width: i64) {
     let n = direction.len();
     let search = |room: usize| second::decode(book, direction, width, n, 8 * n, 8 * room);
     let expected = search(4_000_000);
-    let states = match &expected {
-        Ok(answer) => answer.states,
-        Err(code) => return println!("{name:40} refused with {code}"),
+    let answer = match &expected {
+        Ok(answer) => answer,
+        Err(code) => {
+            return println!(
+                "{name:40} refused with {code} by both: {}",
+                both_refuse(book, direction, width, *code)
+            )
+        }
     };
+    let states = answer.states;
     let places = states + states / 10 + 1;
     let (mut steps, mut words) = (vec![0; 3 * n], vec![0; 8 * n]);
     let (mut store, mut report) = (vec![0; 8 * places], [0; 4]);
@@ -60,7 +66,6 @@ fn decode(name: &str, book: &[i32], direction: &[u16], width: i64) {
         || assert_eq!(ours(), 0),
         || assert_eq!(search(places), expected),
     );
-    let answer = expected.unwrap();
     assert_eq!((report[0], report[3]), (answer.score, states as i64));
     let each = |t: Duration| t.as_nanos() as f64 / states as f64;
     println!(
@@ -71,6 +76,21 @@ fn decode(name: &str, book: &[i32], direction: &[u16], width: i64) {
         each(b),
         ratio(a, b)
     );
+}
+
+/// Whether the library gives this refusal too.
+fn both_refuse(book: &[i32], direction: &[u16], width: i64, code: u8) -> bool {
+    let (mut steps, mut words) = ([0; 3 * 32], [0; 8 * 32]);
+    let mut store = vec![0; 8 * 100_000];
+    library::decode(
+        book,
+        direction,
+        width,
+        &mut steps,
+        &mut words,
+        &mut store,
+        &mut [],
+    ) == code as i32
 }
 
 fn file(name: &str) -> Vec<u8> {
