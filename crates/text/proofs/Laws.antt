@@ -89,3 +89,10 @@ emit-marks book s (b ∷ bs) = each (isMark b) (emit-marks book (next book s b) 
         → cond m (marks bs + 1) (marks bs) ≡ length (cond m (scanned s ∷ emit book (next book s b) bs) (emit book (next book s b) bs))
     each true h = omega arith
     each false h = h
+
+-- there are no more marks than bytes
+pub marks-few : (t : List ℕ) → marks t ≤ length t
+marks-few [] = omega arith
+marks-few (b ∷ bs) =
+    let h = marks-few bs in
+    if-ind (isMark b) (λ (n : ℕ). n ≤ length (b ∷ bs)) (λ e. omega arith) (λ e. omega arith)

@@ -3,10 +3,12 @@
 use mathlib.Core.Path.{_≡_, refl, sym, ap, _∙_}
 use mathlib.Core.Bool.{Bool, true, false, cond, _&&_}
 use mathlib.Core.List.{List, [], _∷_, _++_, append-nil, map, dropLast}
-use Prim.Native.Nat.{ℕ, _+_, _*_, _-_}
+use Prim.Native.Nat.{ℕ, _+_, _*_, _-_, _≤_}
 use native.Mathlib.Nat.{zero-mul, zero-add}
+use native.Mathlib.Omega.{arith}
 use lib.Dec.{eqb}
 use lib.IntN.{ℤ, pos, negℤ}
+use lib.ListN.{length}
 use Rattle.laws.specs.Lists.{isEmpty, concat}
 use Rattle.laws.proofs.Tests.{both, clash}
 use Rattle.notes.specs.Numerals.{isDigit, digitsValue, valueOf}
@@ -15,6 +17,7 @@ use Rattle.notes.specs.Direction.{isDirectionText, directionNumbers}
 use Rattle.text.specs.Scan.{moreDigits, next, lineStart, afterNumber, run, atLine, signed, scanned, emit}
 use Rattle.text.specs.declared.Scan.{Scan}
 use Rattle.text.specs.declared.Scan.the-variants.{Line, Kind, Field, Minus, Digits, Broken}
+use Rattle.text.proofs.Laws.{emit-marks, marks-few}
 use Rattle.text.proofs.Cut.{Cut, line, cut, Sort, sort, areNumbers, isRest, book-is, book-empty, direction-is, lines-are}
 use Rattle.text.proofs.Form.{accepted, stop, no-line, kindOfByte, kind-is, letterBy, numberBy, positiveBy, digitsBy}
 
@@ -140,6 +143,10 @@ book-numbers [] h = clash h book-empty
 book-numbers (b ∷ bs) h =
     given true (b ∷ bs) Line (accepted true (b ∷ bs) Line ∙ sym (book-is b bs) ∙ h)
     ∙ ap (λ (x : List (List (List ℕ))). concat (map lineNumbers x)) (sym (lines-are (b ∷ bs)))
+
+-- a book's text has no more numbers than bytes
+pub numbers-few : (t : List ℕ) → isBookText t ≡ true → length (loadedOf t) ≤ length t
+numbers-few t h = omega (arith, marks-few t, emit-marks true Line t, ap length (book-numbers t h))
 
 pub direction-numbers : (t : List ℕ) → isDirectionText t ≡ true → emit false Field t ≡ directionNumbers t
 unfolding directionNumbers

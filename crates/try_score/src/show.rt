@@ -1,36 +1,10 @@
 // What the cases print with: a line is a label, a colon, and the score or `R,` and the number of the refusal.
 ghost use Prim.Native.Nat.{_≤_};
-use notes::Refusal;
 use notes::Scored;
 use notes::Step;
 
 // Standard output.
 const OUT: i32 = 1;
-
-// A refusal's number in document 01.
-fn number_of(refusal: Refusal) -> u64 {
-    match refusal {
-        Refusal::BookText => 1,
-        Refusal::LineFields => 2,
-        Refusal::BLine => 3,
-        Refusal::NumberRange => 4,
-        Refusal::LineCount => 5,
-        Refusal::RepeatedTriple => 6,
-        Refusal::ListTooShort => 7,
-        Refusal::DirectionText => 8,
-        Refusal::WordCount => 9,
-        Refusal::WordRange => 10,
-        Refusal::Width => 11,
-        Refusal::StepsOrWordsTooShort => 12,
-        Refusal::StoreTooSmall => 13,
-        Refusal::NoDerivation => 14,
-        Refusal::LastSetEmpty => 15,
-        Refusal::DoesNotFit => 16,
-        Refusal::CoveredTwice => 17,
-        Refusal::JumpTooLong => 18,
-        Refusal::Uncovered => 19,
-    }
-}
 
 // The number, or 0 where it is negative.
 fn natural(z: i64) -> u64 {
@@ -59,7 +33,7 @@ fn reply(scored: Scored) {
         }
         Scored::Refused(refusal) => {
             io::write_all(OUT, b"R,");
-            io::print_decimal(OUT, number_of(refusal));
+            io::print_decimal(OUT, notes::number_of(refusal) as u64);
         }
     }
 }
