@@ -19,31 +19,10 @@ use Rattle.laws.specs.Integers.{natOf}
 use Rattle.notes.specs.declared.Read.{Read}
 use Rattle.notes.specs.declared.Read.the-variants.{Numbers, Refused}
 use Rattle.notes.proofs.Chains.{test-passes, rest-passes, done-passes, done-is}
+use Rattle.reading.proofs.Numbered.{number-to}
 use Rattle.ffi.specs.Bounds.{Counted}
 use Rattle.notes.specs.Questions.{_unless_, number}
 use Rattle.notes.specs.declared.Refusal.{Refusal}
-use Rattle.notes.specs.declared.Refusal.the-variants.{BookText, LineFields, BLine, NumberRange, LineCount, RepeatedTriple, ListTooShort, DirectionText, WordCount, WordRange, Width, StepsOrWordsTooShort, StoreTooSmall, NoDerivation, LastSetEmpty, DoesNotFit, CoveredTwice, JumpTooLong, Uncovered}
-
-pub number-to : (refusal : Refusal) → number refusal ≤ 19
-number-to BookText = omega arith
-number-to LineFields = omega arith
-number-to BLine = omega arith
-number-to NumberRange = omega arith
-number-to LineCount = omega arith
-number-to RepeatedTriple = omega arith
-number-to ListTooShort = omega arith
-number-to DirectionText = omega arith
-number-to WordCount = omega arith
-number-to WordRange = omega arith
-number-to Width = omega arith
-number-to StepsOrWordsTooShort = omega arith
-number-to StoreTooSmall = omega arith
-number-to NoDerivation = omega arith
-number-to LastSetEmpty = omega arith
-number-to DoesNotFit = omega arith
-number-to CoveredTwice = omega arith
-number-to JumpTooLong = omega arith
-number-to Uncovered = omega arith
 
 -- a count as a signed number
 pub as64 : (n : ℕ) → n < 9_223_372_036_854_775_808 → toZ w64 n ≡ pos n

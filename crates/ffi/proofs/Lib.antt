@@ -1,5 +1,4 @@
 pub mod Codes
-pub mod Copies
 pub mod Decoding
 pub mod Reports
 pub mod Threes

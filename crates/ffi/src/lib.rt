@@ -18,38 +18,11 @@ ghost use Rattle.text.specs.Walk.{filledWith};
 ghost use Rattle.ffi.specs.Bounds.{Counted};
 ghost use Rattle.ffi.specs.Calls.{countOrRefusal, zeroOrRefusal, recordsIn, scoreReport, DecodesNumbers};
 
-// The refusal's number in document 01.
-fn number_of(refusal: Refusal) -> usize
-    ensures { λ r. ⌜ r ≡ number refusal ⌝ }
-{
-    match refusal {
-        Refusal::BookText => 1,
-        Refusal::LineFields => 2,
-        Refusal::BLine => 3,
-        Refusal::NumberRange => 4,
-        Refusal::LineCount => 5,
-        Refusal::RepeatedTriple => 6,
-        Refusal::ListTooShort => 7,
-        Refusal::DirectionText => 8,
-        Refusal::WordCount => 9,
-        Refusal::WordRange => 10,
-        Refusal::Width => 11,
-        Refusal::StepsOrWordsTooShort => 12,
-        Refusal::StoreTooSmall => 13,
-        Refusal::NoDerivation => 14,
-        Refusal::LastSetEmpty => 15,
-        Refusal::DoesNotFit => 16,
-        Refusal::CoveredTwice => 17,
-        Refusal::JumpTooLong => 18,
-        Refusal::Uncovered => 19,
-    }
-}
-
 // The refusal's number as C has it.
 fn code_of(refusal: Refusal) -> i32
     ensures { λ r. ⌜ r ≡ pos (number refusal) ⌝ }
 {
-    number_of(refusal) as i32
+    notes::number_of(refusal) as i32
 }
 
 // How many numbers were read, or minus the refusal.
@@ -59,7 +32,7 @@ fn count_or_refusal(reply: Read) -> i64
 {
     match reply {
         Read::Numbers(n) => n as i64,
-        Read::Refused(refusal) => 0 - number_of(refusal) as i64,
+        Read::Refused(refusal) => 0 - notes::number_of(refusal) as i64,
     }
 }
 

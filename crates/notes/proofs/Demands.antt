@@ -49,14 +49,17 @@ before-to loaded direction width lent =
     (chain-to _ _ 12 (test-to 11 (leZ (negsuc 0) width) 12 (omega arith))
     (test-to 12 (leb (wordCount direction) (lent .steps) && leb (8 * wordCount direction) (lent .words)) 12 (omega arith))))
 
+-- there are at most 32 numbers where 9 passes
+pub numbers-to : (numbers : List ℤ) → numbersRefusal numbers ≡ 0 → length numbers ≤ 32
+unfolding numbersRefusal
+numbers-to numbers e =
+    let t = test-passes 8 (within 1 32 (length numbers)) (first-passes (9 unless within 1 32 (length numbers)) _ e) in
+    leb-true _ _ (both (leb 1 (length numbers)) _ t .1)
+
 -- a direction that 9 passes has at most 32 words
 pub direction-to : (direction : List ℕ) → directionRefusal direction ≡ 0 → wordCount direction ≤ 32
-unfolding directionRefusal numbersRefusal wordCount
-direction-to direction e =
-    let t = test-passes 8 (within 1 32 (length (map pos direction))) (first-passes (9 unless within 1 32 (length (map pos direction))) _ e) in
-    let h : length (map pos direction) ≤ 32 = leb-true _ _ (both (leb 1 (length (map pos direction))) _ t .1) in
-    let m : length (map pos direction) ≡ length direction = length-map direction pos in
-    omega arith
+unfolding directionRefusal wordCount
+direction-to direction e = omega (arith, numbers-to (map pos direction) e, length-map direction pos)
 
 -- 13, 14 and 15 by what is asked: pruning is off, the store holds the states, the last set is empty
 abbrev after : Bool → Bool → Bool → ℕ

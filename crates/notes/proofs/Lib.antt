@@ -13,3 +13,4 @@ pub mod Instance
 pub mod Answers
 pub mod Widths
 pub mod Demands
+pub mod Rooms

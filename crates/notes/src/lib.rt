@@ -1,5 +1,6 @@
 // What the calls and their contracts share: the records and the answers of document 01.
 // specs/ says what each stands for; there is no decoder here.
+ghost use Rattle.notes.specs.Questions.{number};
 ghost use Rattle.notes.specs.State.{IsStart, scoreBound};
 ghost use mathlib.Core.Path.{_≡_};
 ghost use lib.IntN.{pos};
@@ -70,6 +71,33 @@ pub enum Refusal {
     CoveredTwice,
     JumpTooLong,
     Uncovered,
+}
+
+// The refusal's number in document 01.
+pub fn number_of(refusal: Refusal) -> usize
+    ensures { λ r. ⌜ r ≡ number refusal ⌝ }
+{
+    match refusal {
+        Refusal::BookText => 1,
+        Refusal::LineFields => 2,
+        Refusal::BLine => 3,
+        Refusal::NumberRange => 4,
+        Refusal::LineCount => 5,
+        Refusal::RepeatedTriple => 6,
+        Refusal::ListTooShort => 7,
+        Refusal::DirectionText => 8,
+        Refusal::WordCount => 9,
+        Refusal::WordRange => 10,
+        Refusal::Width => 11,
+        Refusal::StepsOrWordsTooShort => 12,
+        Refusal::StoreTooSmall => 13,
+        Refusal::NoDerivation => 14,
+        Refusal::LastSetEmpty => 15,
+        Refusal::DoesNotFit => 16,
+        Refusal::CoveredTwice => 17,
+        Refusal::JumpTooLong => 18,
+        Refusal::Uncovered => 19,
+    }
 }
 
 // Reading a book or a direction: how many numbers were written.

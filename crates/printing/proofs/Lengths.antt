@@ -5,18 +5,19 @@ use mathlib.Core.List.{List, [], _∷_, _++_, map, List·Memᴰ, List·Memᴰ·h
 use native.Mathlib.Nat.{mul-suc}
 use native.Mathlib.Omega.{arith}
 use lib.IntN.{ℤ, pos, negsuc}
-use lib.ListN.{length, length-append, length-map, List·getD-map}
+use lib.ListN.{length, getD, length-append}
 use Rattle.laws.specs.Integers.{Within}
-use Rattle.laws.specs.Lists.{concat, numbersFrom}
-use Rattle.laws.proofs.Lists.{mem-getD, numbers-length}
+use Rattle.laws.specs.Lists.{concat}
+use Rattle.laws.proofs.Lists.{mem-getD}
 use Rattle.notes.specs.Render.{decimal, printedLine, printedStep, printedRefusal, printedAnswer}
 use Rattle.notes.specs.Reply.{Outcome}
 use Rattle.notes.specs.State.{scoreBound}
 use Rattle.notes.specs.declared.Step.{Step}
-use Rattle.printing.specs.Put.{field}
-use Rattle.printing.specs.Steps.{stepAt, stepsOf}
+use Rattle.records.specs.Plain.{stepIn, stepsOf}
+use Rattle.records.proofs.Laws.{count-steps, step-at}
+use Rattle.printing.specs.Put.{field, plainOf}
 use Rattle.printing.proofs.Digits.{at-most, negative}
-use Rattle.printing.proofs.Lines.{line-1-long, line-3-long, line-4-long, line-of-long, three-long, step-number}
+use Rattle.printing.proofs.Lines.{line-1-long, line-3-long, line-4-long, line-of-long, three-long}
 
 -- ---- numbers
 
@@ -39,16 +40,16 @@ score-short (negsuc n) h = omega (arith, ap length (negative n), at-most 8 (suc 
 pub refusal-short : (k : ℕ) → k < 100 → length (printedRefusal k) ≤ 5
 refusal-short k h = omega (arith, line-1-long 82 (pos k), two-digits k h)
 
--- a step of a direction of fewer than 100 words
-pub record Narrow (step : Step) : Type 0 where
-  pub first : step .first < 100
-  pub last : step .last < 100
+-- a step of 16-bit numbers
+pub record Small (step : Step) : Type 0 where
+  pub first : step .first < 65_536
+  pub last : step .last < 65_536
   pub entry : step .entry < 65_536
 
-pub step-short : (step : Step) → Narrow step → length (printedStep step) ≤ 14
+pub step-short : (step : Step) → Small step → length (printedStep step) ≤ 20
 step-short step h =
     omega
-    (arith, line-3-long 83 (step .first) (step .last) (step .entry), three-long (step .first) (step .last) (step .entry), two-digits (step .first) (h .first), two-digits (step .last) (h .last), five-digits (step .entry) (h .entry))
+    (arith, line-3-long 83 (step .first) (step .last) (step .entry), three-long (step .first) (step .last) (step .entry), five-digits (step .first) (h .first), five-digits (step .last) (h .last), five-digits (step .entry) (h .entry))
 
 -- as many as there are elements, each at most `most`
 pub each-short : {A : Type 0} (f : A → List ℕ) (most : ℕ) (xs : List A) → ((x : A) → List·Memᴰ x xs → length (f x) ≤ most) → length (concat (map f xs)) ≤ most * length xs
@@ -57,28 +58,29 @@ each-short f most (x ∷ xs) h =
     omega
     (arith, length-append (f x) (concat (map f xs)), mul-suc most (length xs), h x (List·Memᴰ·head refl), each-short f most xs (λ y m. h y (List·Memᴰ·tail m)))
 
-pub steps-short : (steps : List Step) → ((s : Step) → List·Memᴰ s steps → Narrow s) → length (concat (map printedStep steps)) ≤ 14 * length steps
-steps-short steps h = each-short printedStep 14 steps (λ s m. step-short s (h s m))
+pub steps-short : (steps : List Step) → ((s : Step) → List·Memᴰ s steps → Small s) → length (concat (map printedStep steps)) ≤ 20 * length steps
+steps-short steps h = each-short printedStep 20 steps (λ s m. step-short s (h s m))
 
 pub words-short : (words : List ℕ) → ((w : ℕ) → List·Memᴰ w words → w < 65_536) → length (printedLine 87 (map pos words)) ≤ 2 + 6 * length words
 words-short words h =
     omega (arith, line-of-long 87 words, each-short (λ n. field (pos n)) 6 words (λ w m. omega (arith, five-digits w (h w m))))
 
--- ---- an answer: 32 steps of 14 bytes, 256 words of 6, and the line of its numbers
+-- ---- an answer: 32 steps of 20 bytes, 256 words of 6, and the line of its numbers
 
 pub answer-short : (a : Outcome) (steps : List Step) (words : List ℕ) → Within scoreBound (a .score) → a .states < 2 ^ 64
-    → length steps ≤ 32 → ((s : Step) → List·Memᴰ s steps → Narrow s) → length words ≤ 256 → ((w : ℕ) → List·Memᴰ w words → w < 65_536)
-    → length (printedAnswer a steps words) ≤ 2_048
+    → length steps ≤ 32 → ((s : Step) → List·Memᴰ s steps → Small s) → length words ≤ 256 → ((w : ℕ) → List·Memᴰ w words → w < 65_536)
+    → length (printedAnswer a steps words) ≤ 4_096
 unfolding printedAnswer
-answer-short a steps words score states few narrow short small =
+answer-short a steps words score states few small short fit =
     let counts = printedLine 65 (a .score ∷ pos (length steps) ∷ pos (length words) ∷ pos (a .states) ∷ []) in
     let lines = concat (map printedStep steps) in
     omega
-    (arith, length-append (counts ++ lines) (printedLine 87 (map pos words)), length-append counts lines, line-4-long 65 (a .score) (length steps) (length words) (a .states), three-long (length steps) (length words) (a .states), score-short (a .score) score, two-digits (length steps) (omega arith), at-most 2 (length words) (omega arith), twenty-digits (a .states) states, steps-short steps narrow, words-short words small)
+    (arith, length-append (counts ++ lines) (printedLine 87 (map pos words)), length-append counts lines, line-4-long 65 (a .score) (length steps) (length words) (a .states), three-long (length steps) (length words) (a .states), score-short (a .score) score, two-digits (length steps) (omega arith), at-most 2 (length words) (omega arith), twenty-digits (a .states) states, steps-short steps small, words-short words fit)
 
--- steps that stand as plain numbers: of each step, from each place
-pub steps-narrow : (plain : List ℕ) (count : ℕ) → ((i : ℕ) → i < count → Narrow (stepAt plain i)) → (s : Step) → List·Memᴰ s (stepsOf plain count) → Narrow s
-steps-narrow plain count h s m =
-    let r = mem-getD (stepsOf plain count) (stepAt plain 0) m in
-    let l : r .0 < count = rw (length-map, numbers-length) at (r .1) in
-    subst Narrow (sym (List·getD-map (stepAt plain) (numbersFrom 0 count) (r .0) 0 ∙ ap (stepAt plain) (step-number count (r .0) l)) ∙ r .2) (h (r .0) l)
+-- steps that stand as plain numbers are of 16-bit numbers where the numbers are
+pub steps-small : (numbers : List ℕ) (count : ℕ) → ((i : ℕ) → getD numbers i 0 < 65_536) → (s : Step) → List·Memᴰ s (stepsOf (plainOf numbers count)) → Small s
+steps-small numbers count h s m =
+    let p = plainOf numbers count in
+    let r = mem-getD (stepsOf p) (stepIn p 0) m in
+    let l : r .0 < count = rw (count-steps p count) at (r .1) in
+    subst Small (sym (step-at p count (r .0) (stepIn p 0) l) ∙ r .2) (record { first = h (r .0 * 3); last = h (r .0 * 3 + 1); entry = h (r .0 * 3 + 2) })

@@ -1,16 +1,16 @@
 -- A line as its parts, in the order in which they are put.
-use Prim.Native.Nat.{ℕ, _+_, _<_}
+use Prim.Native.Nat.{ℕ, _+_}
 use mathlib.Core.Path.{_≡_, sym, ap, _∙_}
 use mathlib.Core.List.{List, [], _∷_, _++_, map, map-map, append-assoc, append-nil}
 use native.Mathlib.Omega.{arith}
 use lib.IntN.{ℤ, pos}
-use lib.ListN.{length, getD, length-append, length-map}
-use Rattle.laws.specs.Lists.{concat, numbersFrom}
-use Rattle.laws.proofs.Lists.{numbers-length, numbers-getD}
+use lib.ListN.{length, length-append}
+use Rattle.laws.specs.Lists.{concat}
 use Rattle.notes.specs.Numerals.{newline, comma}
 use Rattle.notes.specs.Render.{decimal, printedLine, printedStep, printedAnswer}
-use Rattle.printing.specs.Put.{field, lastThree, outcomeOf}
-use Rattle.printing.specs.Steps.{stepAt, stepsOf}
+use Rattle.records.specs.Plain.{stepsOf}
+use Rattle.records.proofs.Laws.{count-steps}
+use Rattle.printing.specs.Put.{field, lastThree, outcomeOf, plainOf}
 
 -- a line of one number
 pub line-1 : (l : ℕ) (a : ℤ) → printedLine l (a ∷ []) ≡ (l ∷ []) ++ field a ++ (newline ∷ [])
@@ -52,23 +52,16 @@ line-of l ns = rw (map-map (λ z. comma ∷ decimal z) pos ns)
 pub line-of-long : (l : ℕ) (ns : List ℕ) → length (printedLine l (map pos ns)) ≡ 2 + length (concat (map (λ n. field (pos n)) ns))
 line-of-long l ns = ap length (line-of l ns) ∙ simp length-append (omega arith)
 
--- the steps' lines, by the numbers of the steps
-pub steps-are : (plain : List ℕ) (count : ℕ) → concat (map printedStep (stepsOf plain count)) ≡ concat (map (λ i. printedStep (stepAt plain i)) (numbersFrom 0 count))
-steps-are plain count = ap concat (map-map printedStep (stepAt plain) (numbersFrom 0 count))
-
-pub step-number : (count i : ℕ) → i < count → getD (numbersFrom 0 count) i 0 ≡ i
-step-number count i h = numbers-getD 0 count i 0 h ∙ omega arith
-
 -- an answer: its numbers, its steps, its words
 pub answer-is : (score : ℤ) (states : ℕ) (plain : List ℕ) (count : ℕ) (words : List ℕ)
-    → printedAnswer (outcomeOf score states) (stepsOf plain count) words
-    ≡ printedLine 65 (score ∷ pos count ∷ pos (length words) ∷ pos states ∷ []) ++ concat (map printedStep (stepsOf plain count)) ++ printedLine 87 (map pos words)
+    → printedAnswer (outcomeOf score states) (stepsOf (plainOf plain count)) words
+    ≡ printedLine 65 (score ∷ pos count ∷ pos (length words) ∷ pos states ∷ []) ++ concat (map printedStep (stepsOf (plainOf plain count))) ++ printedLine 87 (map pos words)
 unfolding printedAnswer
-answer-is score states plain count words = rw (length-map, numbers-length)
+answer-is score states plain count words = rw (count-steps (plainOf plain count) count)
 
 pub answer-long : (score : ℤ) (states : ℕ) (plain : List ℕ) (count : ℕ) (words : List ℕ)
-    → length (printedAnswer (outcomeOf score states) (stepsOf plain count) words)
+    → length (printedAnswer (outcomeOf score states) (stepsOf (plainOf plain count)) words)
     ≡ length (printedLine 65 (score ∷ pos count ∷ pos (length words) ∷ pos states ∷ []))
-    + length (concat (map printedStep (stepsOf plain count)))
+    + length (concat (map printedStep (stepsOf (plainOf plain count))))
     + length (printedLine 87 (map pos words))
 answer-long score states plain count words = ap length (answer-is score states plain count words) ∙ simp length-append

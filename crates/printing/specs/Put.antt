@@ -7,6 +7,7 @@ use lib.ListN.{length, take, drop}
 use Rattle.notes.specs.Numerals.{newline, comma}
 use Rattle.notes.specs.Render.{decimal}
 use Rattle.notes.specs.Reply.{Outcome}
+use Rattle.records.specs.declared.Plain.{Plain}
 
 -- the bytes bs stand in the list from place `at` up to r, and the rest of the list is as it was
 pub record Put (bs : List ℕ) (at r : ℕ) (old new : List ℕ) : Type 0 where
@@ -26,3 +27,7 @@ lastThree a b c = field (pos a) ++ field (pos b) ++ field (pos c) ++ (newline �
 -- the two numbers of an answer that are not lengths
 abbrev pub outcomeOf : ℤ → ℕ → Outcome
 outcomeOf score states = record { score = score; states = states }
+
+-- steps that stand in a list as plain numbers, three to a step
+abbrev pub plainOf : List ℕ → ℕ → Plain
+plainOf numbers count = record { count = count; numbers = numbers }

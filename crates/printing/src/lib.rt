@@ -8,8 +8,8 @@ ghost use lib.ListN.{length};
 ghost use Rattle.laws.specs.Integers.{Within};
 ghost use Rattle.laws.specs.Lists.{concat};
 ghost use Rattle.notes.specs.Render.{decimal, printedLine, printedStep, printedRefusal, printedAnswer};
-ghost use Rattle.printing.specs.Put.{Put, field, lastThree, outcomeOf};
-ghost use Rattle.printing.specs.Steps.{stepsOf};
+ghost use Rattle.records.specs.Plain.{stepsOf};
+ghost use Rattle.printing.specs.Put.{Put, field, lastThree, outcomeOf, plainOf};
 use notes::Step;
 
 // Puts one byte at a place.
@@ -155,16 +155,17 @@ pub fn put_words(out: &mut [u8], at: usize, words: &[u16]) -> usize
 // Puts the lines of `count` steps, which stand in `plain` as three numbers each: first, last, entry.
 pub fn put_steps(out: &mut [u8], at: usize, plain: &[u16], count: usize) -> usize
     requires { ⌜ 3 * count ≤ length (now plain) ⌝ }
-    requires { ⌜ at + length (concat (map printedStep (stepsOf (now plain) count))) ≤ length (now out) ⌝ }
-    ensures { λ r. ⌜ Put (concat (map printedStep (stepsOf (now (plain .entry)) count))) at r (now (out .entry)) (now (out .exit)) ⌝ }
+    requires { ⌜ at + length (concat (map printedStep (stepsOf (plainOf (now plain) count)))) ≤ length (now out) ⌝ }
+    ensures { λ r. ⌜ Put (concat (map printedStep (stepsOf (plainOf (now (plain .entry)) count)))) at r (now (out .entry)) (now (out .exit)) ⌝ }
 {
     let mut next = at;
     let mut i = 0;
     while i < count {
+        let j = i * 3;
         let step = Step {
-            first: plain[3 * i],
-            last: plain[3 * i + 1],
-            entry: plain[3 * i + 2],
+            first: plain[j],
+            last: plain[j + 1],
+            entry: plain[j + 2],
         };
         next = put_step(out, next, step);
         i += 1;
@@ -184,8 +185,8 @@ pub fn put_answer(
 ) -> usize
     requires { ⌜ Within (2 ^ 62) score ⌝ }
     requires { ⌜ 3 * count ≤ length (now plain) ⌝ }
-    requires { ⌜ at + length (printedAnswer (outcomeOf score states) (stepsOf (now plain) count) (now words)) ≤ length (now out) ⌝ }
-    ensures { λ r. ⌜ Put (printedAnswer (outcomeOf score states) (stepsOf (now (plain .entry)) count) (now (words .entry))) at r (now (out .entry)) (now (out .exit)) ⌝ }
+    requires { ⌜ at + length (printedAnswer (outcomeOf score states) (stepsOf (plainOf (now plain) count)) (now words)) ≤ length (now out) ⌝ }
+    ensures { λ r. ⌜ Put (printedAnswer (outcomeOf score states) (stepsOf (plainOf (now (plain .entry)) count)) (now (words .entry))) at r (now (out .entry)) (now (out .exit)) ⌝ }
 {
     let steps = put_counts(out, at, score, count, words.len(), states);
     let line = put_steps(out, steps, plain, count);

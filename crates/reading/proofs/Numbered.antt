@@ -1,4 +1,4 @@
--- The number of a refusal is not 0, which is the number of none.
+-- The number of a refusal is 1 to 19, and not 0, which is the number of none.
 use Prim.Native.Nat.{ℕ, zero, suc, _≤_}
 use native.Mathlib.Omega.{arith}
 use mathlib.Core.Path.{_≡_, refl, sym, _∙_, ap}
@@ -27,6 +27,28 @@ number-from DoesNotFit = omega arith
 number-from CoveredTwice = omega arith
 number-from JumpTooLong = omega arith
 number-from Uncovered = omega arith
+
+-- none has a number above 19
+pub number-to : (refusal : Refusal) → number refusal ≤ 19
+number-to BookText = omega arith
+number-to LineFields = omega arith
+number-to BLine = omega arith
+number-to NumberRange = omega arith
+number-to LineCount = omega arith
+number-to RepeatedTriple = omega arith
+number-to ListTooShort = omega arith
+number-to DirectionText = omega arith
+number-to WordCount = omega arith
+number-to WordRange = omega arith
+number-to Width = omega arith
+number-to StepsOrWordsTooShort = omega arith
+number-to StoreTooSmall = omega arith
+number-to NoDerivation = omega arith
+number-to LastSetEmpty = omega arith
+number-to DoesNotFit = omega arith
+number-to CoveredTwice = omega arith
+number-to JumpTooLong = omega arith
+number-to Uncovered = omega arith
 
 -- a question that refuses ends the chain
 pub refused-first : (k m : ℕ) → 1 ≤ k → k orelse m ≡ k

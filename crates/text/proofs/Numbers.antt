@@ -3,16 +3,18 @@
 use mathlib.Core.Path.{_≡_, refl, sym, ap, _∙_}
 use mathlib.Core.Bool.{Bool, true, false, cond, _&&_}
 use mathlib.Core.List.{List, [], _∷_, _++_, append-nil, map, dropLast}
-use Prim.Native.Nat.{ℕ, _+_, _*_, _-_}
+use Prim.Native.Nat.{ℕ, _+_, _*_, _-_, _≤_}
 use native.Mathlib.Nat.{zero-mul, zero-add}
+use native.Mathlib.Omega.{arith}
 use lib.Dec.{eqb}
 use lib.IntN.{ℤ, pos, negℤ}
+use lib.ListN.{length}
 use Rattle.laws.specs.Lists.{isEmpty, concat}
 use Rattle.laws.proofs.Tests.{both, clash}
 use Rattle.notes.specs.Numerals.{isDigit, digitsValue, valueOf}
 use Rattle.notes.specs.Book.{lineNumbers, isBookText, textLines, loadedOf}
 use Rattle.notes.specs.Direction.{isDirectionText, directionNumbers}
-use Rattle.text.specs.Scan.{Scan, Line, Kind, Field, Minus, Digits, Broken, moreDigits, next, lineStart, afterNumber, run, atLine, signed, scanned, emit}
+use Rattle.text.specs.Scan.{Scan, Line, Kind, Field, Minus, Digits, Broken, moreDigits, next, lineStart, afterNumber, run, atLine, signed, scanned, isMark, emit}
 use Rattle.text.proofs.Cut.{Cut, line, cut, Sort, sort, areNumbers, isRest, book-is, book-empty, direction-is, lines-are}
 use Rattle.text.proofs.Form.{accepted, stop, no-line, kindOfByte, kind-is, letterBy, numberBy, positiveBy, digitsBy}
 
@@ -139,14 +141,14 @@ book-numbers (b ∷ bs) h =
     given true (b ∷ bs) Line (accepted true (b ∷ bs) Line ∙ sym (book-is b bs) ∙ h)
     ∙ ap (λ (x : List (List (List ℕ))). concat (map lineNumbers x)) (sym (lines-are (b ∷ bs)))
 
-pub direction-numbers : (t : List ℕ) → isDirectionText t ≡ true → emit false Field t ≡ directionNumbers t
-unfolding directionNumbers
-direction-numbers t h =
-    given false t Field (accepted false t Field ∙ sym (direction-is t) ∙ h)
-    ∙ one-line (line (cut t)) (cut t .lines) (both (areNumbers (line (cut t))) (isRest false (cut t .lines)) (sym (direction-is t) ∙ h) .1)
-    ∙ ap (λ (x : List (List (List ℕ))). map valueOf (concat x)) (sym (lines-are t))
+-- there are no more numbers than bytes
+emit-few : (book : Bool) (s : Scan) (t : List ℕ) → length (emit book s t) ≤ length t
+emit-few book s [] = omega arith
+emit-few book s (b ∷ bs) = each (isMark b) (emit-few book (next book s b) bs)
   where
-    one-line : (l : List (List ℕ)) (ls : List (List (List ℕ))) → isRest false ls ≡ true → map valueOf l ++ inLines ls ≡ map valueOf (concat (dropLast (l ∷ ls)))
-    one-line l [] e = clash e refl
-    one-line l (m ∷ []) e = append-nil (map valueOf l) ∙ ap (map valueOf) (sym (append-nil l))
-    one-line l (m ∷ n ∷ ls) e = clash e refl
+    each : (m : Bool) → length (emit book (next book s b) bs) ≤ length bs → length (cond m (scanned s ∷ emit book (next book s b) bs) (emit book (next book s b) bs)) ≤ length (b ∷ bs)
+    each true h = omega arith
+    each false h = omega arith
+
+pub numbers-few : (t : List ℕ) → isBookText t ≡ true → length (loadedOf t) ≤ length t
+numbers-few t h = omega (arith, emit-few true Line t, ap length (book-numbers t h))

@@ -6,31 +6,6 @@ use notes::Refusal;
 // Standard output.
 const OUT: i32 = 1;
 
-// A refusal's number in document 01.
-fn number_of(refusal: Refusal) -> u64 {
-    match refusal {
-        Refusal::BookText => 1,
-        Refusal::LineFields => 2,
-        Refusal::BLine => 3,
-        Refusal::NumberRange => 4,
-        Refusal::LineCount => 5,
-        Refusal::RepeatedTriple => 6,
-        Refusal::ListTooShort => 7,
-        Refusal::DirectionText => 8,
-        Refusal::WordCount => 9,
-        Refusal::WordRange => 10,
-        Refusal::Width => 11,
-        Refusal::StepsOrWordsTooShort => 12,
-        Refusal::StoreTooSmall => 13,
-        Refusal::NoDerivation => 14,
-        Refusal::LastSetEmpty => 15,
-        Refusal::DoesNotFit => 16,
-        Refusal::CoveredTwice => 17,
-        Refusal::JumpTooLong => 18,
-        Refusal::Uncovered => 19,
-    }
-}
-
 // The beginning of a case's line.
 pub fn begin(label: &[u8]) {
     io::write_all(OUT, label);
@@ -40,7 +15,7 @@ pub fn begin(label: &[u8]) {
 // `R,` and the refusal's number.
 pub fn refused(refusal: Refusal) {
     io::write_all(OUT, b"R,");
-    io::print_decimal(OUT, number_of(refusal));
+    io::print_decimal(OUT, notes::number_of(refusal) as u64);
 }
 
 // The number, or 0 where it is negative.

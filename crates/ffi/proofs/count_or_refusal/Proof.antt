@@ -7,13 +7,14 @@ use Rattle.notes.specs.Reply.{readReply}
 use Rattle.notes.specs.declared.Read.{Read}
 use Rattle.ffi.specs.Bounds.{Counted}
 use Rattle.ffi.specs.Calls.{countOrRefusal}
-use Rattle.ffi.proofs.Codes.{number-to, as64, minus-fits, minus-is}
+use Rattle.reading.proofs.Numbered.{number-to}
+use Rattle.ffi.proofs.Codes.{as64, minus-fits, minus-is}
 use borrow.Author.Needs.{needs}
 use Rattle.ffi.proofs.count_or_refusal.Statement.{statement}
 use Rattle.ffi.proofs.count_or_refusal.Tie as tie
 use Rattle.ffi.proofs.count_or_refusal.Reads as reads
 use Rattle.ffi.proofs.count_or_refusal.Lts as lts
-use Rattle.ffi.proofs.number_of.Reads as number-of-reads
+use Rattle.notes.proofs.number_of.Reads as number-of-reads
 
 enum-known-reply : tie.Need-enum-known-reply
 enum-known-reply c = search needs

@@ -5,7 +5,7 @@ use native.Mathlib.Omega.{arith}
 use mathlib.Core.Path.{_≡_, refl, ap, _∙_}
 use mathlib.Core.List.{List, _++_}
 use lib.ListN.{length, getD, take, drop, set, length-set}
-use Rattle.ffi.proofs.Copies.{copy-more}
+use Rattle.laws.proofs.Fill.{copy-more}
 use Rattle.ffi.proofs.steps.gather.Statement.{statement}
 use Rattle.ffi.proofs.steps.gather.Tie as tie
 use Rattle.ffi.proofs.steps.gather.Reads as reads

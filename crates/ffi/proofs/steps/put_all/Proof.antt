@@ -6,7 +6,7 @@ use native.Mathlib.Omega.{arith}
 use mathlib.Core.Path.{_≡_, refl, sym, ap, _∙_}
 use mathlib.Core.List.{List, _++_}
 use lib.ListN.{length, getD, take, drop, set, length-set, length-map}
-use Rattle.ffi.proofs.Copies.{copy-more}
+use Rattle.laws.proofs.Fill.{copy-more}
 use Rattle.ffi.proofs.steps.put_all.Statement.{statement}
 use Rattle.ffi.proofs.steps.put_all.Tie as tie
 use Rattle.ffi.proofs.steps.put_all.Reads as reads

@@ -1,9 +1,9 @@
 -- Each refusal with its number.
 use mathlib.Core.Path.{sym, ap}
 use Rattle.notes.specs.Questions.{number}
 use borrow.Author.Needs.{needs}
-use Rattle.ffi.proofs.number_of.Statement.{statement}
-use Rattle.ffi.proofs.number_of.Tie as tie
+use Rattle.notes.proofs.number_of.Statement.{statement}
+use Rattle.notes.proofs.number_of.Tie as tie
 
 enum-told : tie.Need-enum-told
 enum-told c = search needs

@@ -1,0 +1,40 @@
+-- The answer fits the output, and its words stand at the beginning of the word list.
+use Prim.Native.Nat.{_≤_}
+use mathlib.Core.Path.{_≡_, sym}
+use native.Mathlib.Omega.{arith}
+use lib.ListN.{length}
+use lib.Seq.{length-take-le}
+use mir.Syntax.{w64}
+use mir.Val.{toZ, ofZ}
+use Rattle.laws.proofs.Bounds.{within-mono}
+use Rattle.rendering.specs.Parts.{printedDone}
+use Rattle.rendering.proofs.Short.{done-short}
+use borrow.Author.Needs.{needs}
+use Rattle.rendering.proofs.put_done.Statement.{statement}
+use Rattle.rendering.proofs.put_done.Tie as tie
+
+slice-aggregate-put-answer : tie.Need-slice-aggregate-put-answer
+slice-aggregate-put-answer c = sym (length-take-le _ _ (omega arith))
+
+put-answer-requires : tie.Need-put-answer-requires
+put-answer-requires c κs =
+    let c3 = c .before .before .before in
+    let s = c3 .before .before .before in
+    let a = s .args .answer in
+    let back : toZ w64 (ofZ w64 (a .score)) ≡ a .score = search needs in
+    let short : length (printedDone a (s .args .numbers .now) (s .args .words .now)) ≤ 4_096 = done-short a (s .args .numbers .now) (s .args .words .now) (s .pre .1 .0) (search needs) (λ i. omega (arith, c3 .before .shared-slice-known .given i)) (λ i. omega (arith, c3 .shared-slice-known2 .given i)) in
+    rw back (within-mono (omega arith) (s .pre .1 .0 .score), (omega arith, omega arith))
+
+same-length : tie.Need-same-length
+same-length c = search needs
+
+returns : tie.Need-returns
+returns c =
+    let c3 = c .before .before .before in
+    let a = c3 .before .before .before .before .before .before .args .answer in
+    let back : toZ w64 (ofZ w64 (a .score)) ≡ a .score = search needs in
+    rw back at (c .before .before .put-answer .ensures)
+
+pub put-done-spec : {M : Type 1} → statement M
+put-done-spec =
+    tie.close (tie.spec slice-aggregate-put-answer put-answer-requires same-length returns)

@@ -1,0 +1,110 @@
+-- The two lengths, then the book, then the direction: each refusal is put, and what follows a book that was read is the direction's.
+use Prim.Native.Nat.{ℕ, _≤_}
+use mathlib.Core.Path.{_≡_, sym, ap, _∙_}
+use mathlib.Core.Bool.{true, _&&_}
+use native.Mathlib.Omega.{arith}
+use borrow.Author.Tests.{not-true, not-false}
+use lib.Dec.{leb}
+use lib.ListN.{length}
+use lib.Seq.{length-take-le}
+use Rattle.notes.specs.Book.{loadedOf, readRefusal}
+use Rattle.notes.specs.Render.{printedRefusal}
+use Rattle.notes.specs.declared.Refusal.the-variants.{ListTooShort}
+use Rattle.printing.proofs.Laws.{put-first}
+use Rattle.rendering.proofs.Inputs.{Filled, book-filled, book-refusal, too-long, book-refused, book-read}
+use Rattle.rendering.proofs.Short.{refusal-fits}
+use borrow.Author.Needs.{needs}
+use Rattle.rendering.proofs.render.Statement.{statement}
+use Rattle.rendering.proofs.render.Tie as tie
+
+-- the test has passed
+was-short : (c : tie.Else1) → leb (length (c .before .before .before .before .args .book .now)) 8_192 && leb (length (c .before .before .before .before .args .direction .now)) 512 ≡ true
+was-short c = sym (c .before .are-short .ensures) ∙ not-false _ (c .if1 .left)
+
+-- the book that was read
+book-was-read : (c : tie.After-n) → Filled (readRefusal (c .before .before .before .before .before .before .before .before .before .args .book .now) 8_192) (c .n .given .0 .0) (loadedOf (c .before .before .before .before .before .before .before .before .before .args .book .now)) (c .before .before .before .read-book .last .1 .0)
+book-was-read c =
+    let c3 = c .before .before .before in
+    book-filled _ _ _ _ _ (c .n .given .1) (c3 .read-book .ensures .0) (c3 .read-book .ensures .1)
+
+are-short-requires : tie.Need-are-short-requires
+are-short-requires c κs = search needs
+
+put-refusal-requires : tie.Need-put-refusal-requires
+put-refusal-requires c κs =
+    let room : 4_096 ≤ length (c .before .before .before .before .before .args .out .now) = search needs in
+    omega (arith, refusal-fits ListTooShort)
+
+returns : tie.Need-returns
+returns c =
+    let c2 = c .before .before in
+    let p = put-first (c .put-refusal .ensures) in
+    record { within = p .0; is = too-long _ _ _ (sym (c2 .before .are-short .ensures) ∙ not-true _ (c2 .if1 .taken)) (p .1) }
+
+slice-aggregate-read-book : tie.Need-slice-aggregate-read-book
+slice-aggregate-read-book c = search needs
+
+read-book-requires : tie.Need-read-book-requires
+read-book-requires c κs = search needs
+
+enum-known-n : tie.Need-enum-known-n
+enum-known-n c = search needs
+
+array-share-prefix-loaded : tie.Need-array-share-prefix-loaded
+array-share-prefix-loaded c = book-was-read (c .before .before) .inside
+
+slice-aggregate-put-direction : tie.Need-slice-aggregate-put-direction
+slice-aggregate-put-direction c = sym (length-take-le _ _ (book-was-read (c .before .before .before) .inside))
+
+put-direction-requires : tie.Need-put-direction-requires
+put-direction-requires c κs = search needs
+
+enum-known-refusal : tie.Need-enum-known-refusal
+enum-known-refusal c = search needs
+
+number-of-requires : tie.Need-number-of-requires
+number-of-requires c κs = search needs
+
+put-refusal-requires-2 : tie.Need-put-refusal-requires-2
+put-refusal-requires-2 c κs =
+    let c3 = c .before .before .before in
+    let room : 4_096 ≤ length (c3 .before .before .before .before .before .before .before .before .before .args .out .now) = search needs in
+    omega (arith, ap (λ (k : ℕ). length (printedRefusal k)) (c .number-of .ensures), refusal-fits (c3 .refusal .given .0 .0))
+
+returns-2 : tie.Need-returns-2
+returns-2 c =
+    let c4 = c .before .before .before .before in
+    let said = c .put-direction .ensures in
+    record { within = said .within; is = book-read _ _ _ (was-short (c4 .before .before .before .before .before)) (book-was-read c4) (said .is) }
+
+returns-3 : tie.Need-returns-3
+returns-3 c =
+    let c1 = c .before in
+    let c4 = c1 .before .before .before in
+    let p = put-first (c .put-refusal2 .ensures) in
+    record {
+      within = p .0;
+      is =
+          book-refused _ _ _ (was-short (c4 .before .before .before .before .before)) (c4 .refusal .given .0 .0)
+          (book-refusal _ _ 8_192 _ (c4 .refusal .given .1) (c4 .before .before .before .read-book .ensures .0))
+          (p .1 ∙ ap printedRefusal (c1 .number-of .ensures));
+    }
+
+pub render-spec : {M : Type 1} → statement M
+render-spec =
+    tie.close
+    (tie.spec
+    are-short-requires
+    put-refusal-requires
+    returns
+    slice-aggregate-read-book
+    read-book-requires
+    enum-known-n
+    array-share-prefix-loaded
+    slice-aggregate-put-direction
+    put-direction-requires
+    enum-known-refusal
+    number-of-requires
+    put-refusal-requires-2
+    returns-2
+    returns-3)

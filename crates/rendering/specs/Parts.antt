@@ -1,0 +1,50 @@
+-- What the parts of the rendering program ensure, in terms of the lists that they lend.
+use Prim.Native.Nat.{ℕ, zero, suc, _≤_}
+use mathlib.Core.Path.{_≡_}
+use mathlib.Core.List.{List}
+use lib.IntN.{ℤ, negsuc}
+use lib.ListN.{length, take}
+use Rattle.laws.specs.Integers.{Within}
+use Rattle.notes.specs.Questions.{number}
+use Rattle.notes.specs.Book.{bookOf}
+use Rattle.notes.specs.Direction.{directionOf}
+use Rattle.notes.specs.State.{scoreBound}
+use Rattle.notes.specs.Reply.{Reply, Outcome, decode}
+use Rattle.notes.specs.Render.{printedRefusal, printedAnswer, PrintsReply}
+use Rattle.notes.specs.declared.Answer.{Answer}
+use Rattle.notes.specs.declared.Decoded.{Decoded}
+use Rattle.notes.specs.declared.Decoded.the-variants.{Done, Refused}
+use Rattle.records.specs.Plain.{stepsOf}
+use Rattle.printing.specs.Put.{outcomeOf, plainOf}
+
+-- the list begins with r bytes of which P holds
+pub record Begins (P : List ℕ → Type 0) (r : ℕ) (out : List ℕ) : Type 0 where
+  pub within : r ≤ length out
+  pub is : P (take r out)
+
+-- an answer, its steps as plain numbers and its words at the beginning of a list
+abbrev pub printedDone : Answer → List ℕ → List ℕ → List ℕ
+printedDone a numbers words = printedAnswer (outcomeOf (a .score) (a .states)) (stepsOf (plainOf numbers (a .steps))) (take (a .words) words)
+
+abbrev pub printedDecoded : Decoded → List ℕ → List ℕ → List ℕ
+printedDecoded (Done a) numbers words = printedDone a numbers words
+printedDecoded (Refused refusal) numbers words = printedRefusal (number refusal)
+
+-- an answer to at most 32 words
+pub record Fits (a : Answer) : Type 0 where
+  pub score : Within scoreBound (a .score)
+  pub steps : a .steps ≤ 32
+  pub words : a .words ≤ 256
+
+abbrev pub FitsDecoded : Decoded → Type 0
+FitsDecoded (Done a) = Fits a
+FitsDecoded (Refused refusal) = Unit {0}
+
+-- "decodes with pruning off, a store of 512 states", and lists that are long enough for 32 words
+unfoldable pub decodeOff : List ℤ → List ℕ → Reply Outcome
+decodeOff loaded direction = decode loaded direction (negsuc 0) (record { steps = 32; words = 256; store = 4_096 })
+
+-- what is printed once the book is read, by the refusal of the direction's text, 0 for none
+abbrev pub PrintsRead : ℕ → List ℤ → List ℕ → List ℕ → Type 0
+PrintsRead zero loaded directionText out = PrintsReply (bookOf loaded) (directionOf directionText) (decodeOff loaded (directionOf directionText)) out
+PrintsRead (suc k) loaded directionText out = out ≡ printedRefusal (suc k)

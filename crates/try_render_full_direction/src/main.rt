@@ -1,0 +1,4 @@
+// 512 bytes on standard input are read: too many words.
+fn main() {
+    render_run::run();
+}
