@@ -4,11 +4,11 @@ use mathlib.Core.Path.{_≡_, refl, sym, ap, _∙_}
 use mathlib.Core.Bool.{Bool, true, false, cond, _&&_}
 use mathlib.Core.List.{List, [], _∷_, _++_, append-nil, map, dropLast}
 use Prim.Native.Nat.{ℕ, _+_, _*_, _-_, _≤_}
-use native.Mathlib.Nat.{zero-mul, zero-add}
 use native.Mathlib.Omega.{arith}
+use native.Mathlib.Nat.{zero-mul, zero-add}
 use lib.Dec.{eqb}
-use lib.IntN.{ℤ, pos, negℤ}
 use lib.ListN.{length}
+use lib.IntN.{ℤ, pos, negℤ}
 use Rattle.laws.specs.Lists.{isEmpty, concat}
 use Rattle.laws.proofs.Tests.{both, clash}
 use Rattle.notes.specs.Numerals.{isDigit, digitsValue, valueOf}
@@ -140,6 +140,18 @@ book-numbers [] h = clash h book-empty
 book-numbers (b ∷ bs) h =
     given true (b ∷ bs) Line (accepted true (b ∷ bs) Line ∙ sym (book-is b bs) ∙ h)
     ∙ ap (λ (x : List (List (List ℕ))). concat (map lineNumbers x)) (sym (lines-are (b ∷ bs)))
+
+pub direction-numbers : (t : List ℕ) → isDirectionText t ≡ true → emit false Field t ≡ directionNumbers t
+unfolding directionNumbers
+direction-numbers t h =
+    given false t Field (accepted false t Field ∙ sym (direction-is t) ∙ h)
+    ∙ one-line (line (cut t)) (cut t .lines) (both (areNumbers (line (cut t))) (isRest false (cut t .lines)) (sym (direction-is t) ∙ h) .1)
+    ∙ ap (λ (x : List (List (List ℕ))). map valueOf (concat x)) (sym (lines-are t))
+  where
+    one-line : (l : List (List ℕ)) (ls : List (List (List ℕ))) → isRest false ls ≡ true → map valueOf l ++ inLines ls ≡ map valueOf (concat (dropLast (l ∷ ls)))
+    one-line l [] e = clash e refl
+    one-line l (m ∷ []) e = append-nil (map valueOf l) ∙ ap (map valueOf) (sym (append-nil l))
+    one-line l (m ∷ n ∷ ls) e = clash e refl
 
 -- there are no more numbers than bytes
 emit-few : (book : Bool) (s : Scan) (t : List ℕ) → length (emit book s t) ≤ length t
