@@ -9,6 +9,9 @@ mod plain_reader;
 use second::gen::{self, Rng};
 use std::time::{Duration, Instant};
 
+/// No search of this benchmark enters more states.
+const MOST_STATES: usize = 4_000_000;
+
 /// The shorter of two timings each, of several turns taken one after the other.
 fn side_by_side(
     turns: usize,
@@ -35,7 +38,7 @@ fn ratio(a: Duration, b: Duration) -> f64 {
 fn decode(name: &str, book: &[i32], direction: &[u16], width: i64) {
     let n = direction.len();
     let search = |room: usize| second::decode(book, direction, width, n, 8 * n, 8 * room);
-    let expected = search(4_000_000);
+    let expected = search(MOST_STATES);
     let answer = match &expected {
         Ok(answer) => answer,
         Err(code) => {
@@ -81,7 +84,7 @@ fn decode(name: &str, book: &[i32], direction: &[u16], width: i64) {
 /// Whether the library gives this refusal too.
 fn both_refuse(book: &[i32], direction: &[u16], width: i64, code: u8) -> bool {
     let (mut steps, mut words) = ([0; 3 * 32], [0; 8 * 32]);
-    let mut store = vec![0; 8 * 100_000];
+    let mut store = vec![0; 8 * MOST_STATES];
     library::decode(
         book,
         direction,
