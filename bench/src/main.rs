@@ -189,44 +189,51 @@ fn text_of(rng: &mut Rng, phrases: usize) -> String {
     text
 }
 
+/// A text, read by both: a good book's numbers, or the refusal of one with more lines than allowed (5).
+fn read(name: &str, text: &str) {
+    let mut book = vec![0; text.len()];
+    let expected = plain_reader::read(text);
+    let reply = expected.as_ref().map_or(-5, |list| list.len() as i64);
+    let turns = (20_000_000 / text.len()).clamp(20, 5_000);
+    let (a, b) = side_by_side(
+        turns,
+        || assert_eq!(library::read_book(text.as_bytes(), &mut book), reply),
+        || assert_eq!(plain_reader::read(text), expected),
+    );
+    if let Some(list) = &expected {
+        assert_eq!(book[..list.len()], list[..]);
+    }
+    let each = |t: Duration| t.as_nanos() as f64 / text.len() as f64;
+    println!(
+        "{name:40} {:8} {:9.3} {:9.3} {:9.2} {:9.2} {:7.2}",
+        text.len(),
+        a.as_secs_f64() * 1e3,
+        b.as_secs_f64() * 1e3,
+        each(a),
+        each(b),
+        ratio(a, b)
+    );
+}
+
 fn reading() {
     println!("reading                                     bytes   ours ms  theirs ms   ours ns/byte  theirs   ratio");
     let mut rng = Rng::new(2);
     for phrases in [6, 64, 640, 4_096] {
         let text = text_of(&mut rng, phrases);
-        let mut book = vec![0; text.len()];
-        let expected = plain_reader::read(&text).expect("a good book");
-        let turns = (20_000_000 / text.len()).clamp(20, 5_000);
-        let (a, b) = side_by_side(
-            turns,
-            || {
-                assert_eq!(
-                    library::read_book(text.as_bytes(), &mut book),
-                    expected.len() as i64
-                )
-            },
-            || assert_eq!(plain_reader::read(&text).as_ref(), Some(&expected)),
-        );
-        assert_eq!(book[..expected.len()], expected);
-        let each = |t: Duration| t.as_nanos() as f64 / text.len() as f64;
-        println!(
-            "{:40} {:8} {:9.3} {:9.3} {:9.2} {:9.2} {:7.2}",
-            format!("{phrases} P and {} T lines", 2 * phrases),
-            text.len(),
-            a.as_secs_f64() * 1e3,
-            b.as_secs_f64() * 1e3,
-            each(a),
-            each(b),
-            ratio(a, b)
-        );
+        read(&format!("{phrases} P and {} T lines", 2 * phrases), &text);
         if phrases == 4_096 {
-            let (a, _) = side_by_side(200, || assert_eq!(library::check_book(&expected), 0), || ());
+            let book = plain_reader::read(&text).expect("a good book");
+            let (a, _) = side_by_side(200, || assert_eq!(library::check_book(&book), 0), || ());
             println!(
                 "questions 2 to 6 of that book, loaded:   {:.3} ms",
                 a.as_secs_f64() * 1e3
             );
         }
     }
+    read(
+        "6500 P and 13000 T lines, refused",
+        &text_of(&mut rng, 6_500),
+    );
 }
 
 fn main() {
