@@ -34,6 +34,36 @@ fn ratio(a: Duration, b: Duration) -> f64 {
     a.as_secs_f64() / b.as_secs_f64()
 }
 
+/// The lists that the library is lent: for 32 words, and a store of so many places.
+struct Lent {
+    steps: [u16; 3 * 32],
+    words: [u16; 8 * 32],
+    store: Vec<i64>,
+    report: [i64; 4],
+}
+
+impl Lent {
+    fn new(places: usize) -> Lent {
+        Lent {
+            steps: [0; 3 * 32],
+            words: [0; 8 * 32],
+            store: vec![0; 8 * places],
+            report: [0; 4],
+        }
+    }
+    fn decode(&mut self, book: &[i32], direction: &[u16], width: i64) -> i32 {
+        library::decode(
+            book,
+            direction,
+            width,
+            &mut self.steps,
+            &mut self.words,
+            &mut self.store,
+            &mut self.report,
+        )
+    }
+}
+
 /// A book, a direction and a width, decoded by both; the store has a tenth more places than states are entered.
 fn decode(name: &str, book: &[i32], direction: &[u16], width: i64) {
     let n = direction.len();
@@ -44,31 +74,20 @@ fn decode(name: &str, book: &[i32], direction: &[u16], width: i64) {
         Err(code) => {
             return println!(
                 "{name:40} refused with {code} by both: {}",
-                both_refuse(book, direction, width, *code)
+                Lent::new(MOST_STATES).decode(book, direction, width) == *code as i32
             )
         }
     };
     let states = answer.states;
     let places = states + states / 10 + 1;
-    let (mut steps, mut words) = (vec![0; 3 * n], vec![0; 8 * n]);
-    let (mut store, mut report) = (vec![0; 8 * places], [0; 4]);
-    let mut ours = || {
-        library::decode(
-            book,
-            direction,
-            width,
-            &mut steps,
-            &mut words,
-            &mut store,
-            &mut report,
-        )
-    };
+    let mut lent = Lent::new(places);
     let turns = (2_000_000 / states.max(1)).clamp(5, 200);
     let (a, b) = side_by_side(
         turns,
-        || assert_eq!(ours(), 0),
+        || assert_eq!(lent.decode(book, direction, width), 0),
         || assert_eq!(search(places), expected),
     );
+    let report = lent.report;
     assert_eq!((report[0], report[3]), (answer.score, states as i64));
     let each = |t: Duration| t.as_nanos() as f64 / states as f64;
     println!(
@@ -79,21 +98,6 @@ fn decode(name: &str, book: &[i32], direction: &[u16], width: i64) {
         each(b),
         ratio(a, b)
     );
-}
-
-/// Whether the library gives this refusal too.
-fn both_refuse(book: &[i32], direction: &[u16], width: i64, code: u8) -> bool {
-    let (mut steps, mut words) = ([0; 3 * 32], [0; 8 * 32]);
-    let mut store = vec![0; 8 * MOST_STATES];
-    library::decode(
-        book,
-        direction,
-        width,
-        &mut steps,
-        &mut words,
-        &mut store,
-        &mut [],
-    ) == code as i32
 }
 
 fn file(name: &str) -> Vec<u8> {

@@ -45,6 +45,10 @@ put-then {bs} {cs} {at} {m} {r} {old} {mid} {new} p q =
 pub put-first : {bs : List ℕ} {r : ℕ} {old new : List ℕ} → Put bs 0 r old new → (r ≤ length new) × (take r new ≡ bs)
 put-first {bs} {r} {old} p = (omega (arith, p .room, p .same), rw (p .list) (take-at bs (drop r old) r (omega (arith, p .end))))
 
+-- and the places beyond are as they were
+pub put-rest : {bs : List ℕ} {r : ℕ} {old new : List ℕ} → Put bs 0 r old new → drop r new ≡ drop r old
+put-rest {bs} {r} {old} p = rw (p .list) (drop-at bs (drop r old) r (omega (arith, p .end)))
+
 -- ---- a loop that puts something for each element: the bytes of the first i elements are put
 
 module _ {A : Type 0} (f : A → List ℕ) (xs : List A) where

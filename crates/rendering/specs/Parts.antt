@@ -3,7 +3,7 @@ use Prim.Native.Nat.{ℕ, zero, suc, _≤_}
 use mathlib.Core.Path.{_≡_}
 use mathlib.Core.List.{List}
 use lib.IntN.{ℤ, negsuc}
-use lib.ListN.{length, take}
+use lib.ListN.{length, take, drop}
 use Rattle.laws.specs.Integers.{Within}
 use Rattle.notes.specs.Questions.{number}
 use Rattle.notes.specs.Book.{bookOf}
@@ -17,10 +17,11 @@ use Rattle.notes.specs.declared.Decoded.the-variants.{Done, Refused}
 use Rattle.records.specs.Plain.{stepsOf}
 use Rattle.printing.specs.Put.{outcomeOf, plainOf}
 
--- the list begins with r bytes of which P holds
-pub record Begins (P : List ℕ → Type 0) (r : ℕ) (out : List ℕ) : Type 0 where
+-- the list begins with r bytes of which P holds, and the places beyond them are as before
+pub record Begins (P : List ℕ → Type 0) (r : ℕ) (old out : List ℕ) : Type 0 where
   pub within : r ≤ length out
   pub is : P (take r out)
+  pub rest : drop r out ≡ drop r old
 
 -- an answer, its steps as plain numbers and its words at the beginning of a list
 abbrev pub printedDone : Answer → List ℕ → List ℕ → List ℕ

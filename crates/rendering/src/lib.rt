@@ -57,7 +57,7 @@ fn put_decoded(out: &mut [u8], decoded: Decoded, numbers: &[u16], words: &[u16])
 // Decodes with pruning off and a store of 512 states, and puts the reply.
 fn put_decode(out: &mut [u8], book: &[i32], direction: &[u16]) -> usize
     requires { ⌜ 4_096 ≤ length (now out) ⌝ }
-    ensures { λ r. ⌜ Begins (PrintsReply (bookOf (now (book .entry))) (now (direction .entry)) (decodeOff (now (book .entry)) (now (direction .entry)))) r (now (out .exit)) ⌝ }
+    ensures { λ r. ⌜ Begins (PrintsReply (bookOf (now (book .entry))) (now (direction .entry)) (decodeOff (now (book .entry)) (now (direction .entry)))) r (now (out .entry)) (now (out .exit)) ⌝ }
 {
     let mut words = [0u16; 256];
     let mut store = [0i64; 4096];
@@ -70,7 +70,7 @@ fn put_decode(out: &mut [u8], book: &[i32], direction: &[u16]) -> usize
 // Reads the direction's text once the book is read, decodes, and puts the reply.
 fn put_direction(out: &mut [u8], book: &[i32], text: &[u8]) -> usize
     requires { ⌜ 4_096 ≤ length (now out) ⌝ }
-    ensures { λ r. ⌜ Begins (PrintsRead (readDirectionRefusal (now (text .entry)) 32) (now (book .entry)) (now (text .entry))) r (now (out .exit)) ⌝ }
+    ensures { λ r. ⌜ Begins (PrintsRead (readDirectionRefusal (now (text .entry)) 32) (now (book .entry)) (now (text .entry))) r (now (out .entry)) (now (out .exit)) ⌝ }
 {
     let mut words = [0u16; 32];
     match direction::read_direction(text, &mut words) {
@@ -80,9 +80,9 @@ fn put_direction(out: &mut [u8], book: &[i32], text: &[u8]) -> usize
 }
 
 // What the program prints for the bytes of `book.txt` and of standard input: puts it at the beginning of `out`, and says how many
-// bytes it is. Of longer inputs the first 8,193 and 513 bytes are enough.
+// bytes it is; the places beyond are as before. Of longer inputs the first 8,193 and 513 bytes are enough.
 pub fn render(book: &[u8], direction: &[u8], out: &mut [u8; 4096]) -> usize
-    ensures { λ r. ⌜ Begins (Renders (now (book .entry)) (now (direction .entry))) r (now (out .exit)) ⌝ }
+    ensures { λ r. ⌜ Begins (Renders (now (book .entry)) (now (direction .entry))) r (now (out .entry)) (now (out .exit)) ⌝ }
 {
     if !are_short(book, direction) {
         return printing::put_refusal(out, 0, 7);

@@ -74,32 +74,46 @@ fn flat(steps: &[Step]) -> Vec<u16> {
     steps.iter().flat_map(|s| [s.0, s.1, s.2]).collect()
 }
 
+/// What a reading of a text replied and left in the lent list, held to the second decoder's result.
+fn check_reading<T: Copy + PartialEq + std::fmt::Debug>(
+    call: &'static str,
+    text: &[u8],
+    before: &[T],
+    (reply, after): (i64, Vec<T>),
+    expected: Result<Vec<T>, u8>,
+    tally: &mut Tally,
+) {
+    let (meant, list) = match &expected {
+        Ok(list) => (list.len() as i64, over(list, before)),
+        Err(code) => (-(*code as i64), before.to_vec()),
+    };
+    let shown = String::from_utf8_lossy(text);
+    assert_eq!(reply, meant, "{call} {} {shown}", before.len());
+    assert_eq!(after, list, "{call} {} {shown}", before.len());
+    tally.count(call, expected.err().unwrap_or(0));
+}
+
 fn read_book(rng: &mut Rng, text: &[u8], places: usize, tally: &mut Tally) {
     let before: Vec<i32> = (0..places).map(|_| rng.draw() as i32).collect();
     let mut book = before.clone();
     let reply = library::read_book(text, &mut book);
-    let (expected, list) = match second::read_book(text, places) {
-        Ok(list) => (list.len() as i64, over(&list, &before)),
-        Err(code) => (-(code as i64), before),
-    };
-    let shown = String::from_utf8_lossy(text);
-    assert_eq!(reply, expected, "read_book {places} {shown}");
-    assert_eq!(book, list, "read_book {places} {shown}");
-    tally.count("read_book", (-expected).max(0) as u8);
+    let expected = second::read_book(text, places);
+    check_reading("read_book", text, &before, (reply, book), expected, tally);
 }
 
 fn read_direction(rng: &mut Rng, text: &[u8], places: usize, tally: &mut Tally) {
     let before = garbage16(rng, places);
-    let mut direction = before.clone();
-    let reply = library::read_direction(text, &mut direction);
-    let (expected, list) = match second::read_direction(text, places) {
-        Ok(words) => (words.len() as i64, over(&words, &before)),
-        Err(code) => (-(code as i64), before),
-    };
-    let shown = String::from_utf8_lossy(text);
-    assert_eq!(reply, expected, "read_direction {places} {shown}");
-    assert_eq!(direction, list, "read_direction {places} {shown}");
-    tally.count("read_direction", (-expected).max(0) as u8);
+    let mut words = before.clone();
+    let reply = library::read_direction(text, &mut words);
+    let expected = second::read_direction(text, places);
+    check_reading(
+        "read_direction",
+        text,
+        &before,
+        (reply, words),
+        expected,
+        tally,
+    );
 }
 
 fn check_book(rng: &mut Rng, book: &[i32], tally: &mut Tally) {

@@ -3,7 +3,7 @@ use mathlib.Core.Path.{refl, sym, subst}
 use native.Mathlib.Omega.{arith}
 use Rattle.notes.specs.Book.{bookOf}
 use Rattle.notes.specs.Render.{PrintsReply}
-use Rattle.printing.proofs.Laws.{put-first}
+use Rattle.printing.proofs.Laws.{put-first, put-rest}
 use Rattle.rendering.specs.Parts.{decodeOff}
 use Rattle.rendering.proofs.Answered.{core-fits, core-prints}
 use borrow.Author.Needs.{needs}
@@ -47,6 +47,7 @@ returns c =
       is =
           subst (PrintsReply (bookOf book) direction (decodeOff book direction)) (sym (p .1))
           (core-prints _ _ _ _ _ _ _ (c9 .decode-plain .ensures) refl (search needs) refl);
+      rest = put-rest (c2 .put-decoded .ensures);
     }
 
 pub put-decode-spec : {M : Type 1} → statement M

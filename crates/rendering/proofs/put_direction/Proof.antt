@@ -6,7 +6,7 @@ use lib.ListN.{length}
 use lib.Seq.{length-take-le}
 use Rattle.notes.specs.Direction.{readDirectionRefusal, directionOf}
 use Rattle.notes.specs.Render.{printedRefusal}
-use Rattle.printing.proofs.Laws.{put-first}
+use Rattle.printing.proofs.Laws.{put-first, put-rest}
 use Rattle.rendering.proofs.Inputs.{Filled, direction-filled, direction-refusal, direction-refused, direction-decoded}
 use Rattle.rendering.proofs.Short.{refusal-fits}
 use borrow.Author.Needs.{needs}
@@ -57,7 +57,7 @@ returns c =
     let c2 = c .before .before in
     let c6 = c2 .before .before .before .before in
     let said = c2 .put-decode .ensures in
-    record { within = said .within; is = direction-decoded _ _ _ (words-read c6) (said .is) }
+    record { within = said .within; is = direction-decoded _ _ _ (words-read c6) (said .is); rest = said .rest }
 
 same-length-2 : tie.Need-same-length-2
 same-length-2 c = search needs
@@ -74,6 +74,7 @@ returns-2 c =
           direction-refused _ _ _ (c6 .refusal .given .0 .0)
           (direction-refusal _ _ 32 _ (c6 .refusal .given .1) (c6 .before .before .before .read-direction .ensures .0))
           (p .1 ∙ ap printedRefusal (c3 .number-of .ensures));
+      rest = put-rest (c2 .put-refusal .ensures);
     }
 
 pub put-direction-spec : {M : Type 1} → statement M

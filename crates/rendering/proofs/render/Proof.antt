@@ -10,7 +10,7 @@ use lib.Seq.{length-take-le}
 use Rattle.notes.specs.Book.{loadedOf, readRefusal}
 use Rattle.notes.specs.Render.{printedRefusal}
 use Rattle.notes.specs.declared.Refusal.the-variants.{ListTooShort}
-use Rattle.printing.proofs.Laws.{put-first}
+use Rattle.printing.proofs.Laws.{put-first, put-rest}
 use Rattle.rendering.proofs.Inputs.{Filled, book-filled, book-refusal, too-long, book-refused, book-read}
 use Rattle.rendering.proofs.Short.{refusal-fits}
 use borrow.Author.Needs.{needs}
@@ -39,7 +39,7 @@ returns : tie.Need-returns
 returns c =
     let c2 = c .before .before in
     let p = put-first (c .put-refusal .ensures) in
-    record { within = p .0; is = too-long _ _ _ (sym (c2 .before .are-short .ensures) ∙ not-true _ (c2 .if1 .taken)) (p .1) }
+    record { within = p .0; is = too-long _ _ _ (sym (c2 .before .are-short .ensures) ∙ not-true _ (c2 .if1 .taken)) (p .1); rest = put-rest (c .put-refusal .ensures) }
 
 slice-aggregate-read-book : tie.Need-slice-aggregate-read-book
 slice-aggregate-read-book c = search needs
@@ -75,7 +75,7 @@ returns-2 : tie.Need-returns-2
 returns-2 c =
     let c4 = c .before .before .before .before in
     let said = c .put-direction .ensures in
-    record { within = said .within; is = book-read _ _ _ (was-short (c4 .before .before .before .before .before)) (book-was-read c4) (said .is) }
+    record { within = said .within; is = book-read _ _ _ (was-short (c4 .before .before .before .before .before)) (book-was-read c4) (said .is); rest = said .rest }
 
 returns-3 : tie.Need-returns-3
 returns-3 c =
@@ -88,6 +88,7 @@ returns-3 c =
           book-refused _ _ _ (was-short (c4 .before .before .before .before .before)) (c4 .refusal .given .0 .0)
           (book-refusal _ _ 8_192 _ (c4 .refusal .given .1) (c4 .before .before .before .read-book .ensures .0))
           (p .1 ∙ ap printedRefusal (c1 .number-of .ensures));
+      rest = put-rest (c .put-refusal2 .ensures);
     }
 
 pub render-spec : {M : Type 1} → statement M
