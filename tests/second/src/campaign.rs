@@ -277,6 +277,14 @@ fn search_round(rng: &mut Rng, shape: &Shape, tally: &mut Tally) {
     }
 }
 
+/// A text's reading against the plain walk's verdict: its refusal, and how many numbers it has.
+fn check_verdict<T>(text: &[u8], result: &Result<Vec<T>, u8>, (code, size): (u8, usize)) {
+    match result {
+        Ok(list) => assert_eq!((code, size), (0, list.len())),
+        Err(given) => assert_eq!(code, *given, "{}", String::from_utf8_lossy(text)),
+    }
+}
+
 /// Reading: good and damaged texts and lists, each with the number meant for it.
 fn reading_round(rng: &mut Rng, shape: &Shape, tally: &mut Tally, large: bool) {
     // A good text loads as its lines; a short list gives 7.
@@ -369,11 +377,7 @@ fn reading_round(rng: &mut Rng, shape: &Shape, tally: &mut Tally, large: bool) {
     };
     let result = read_book(&text, places);
     tally.reply("read_book, mangled", &result);
-    let (code, size) = plain::book_text_verdict(&text, places);
-    match &result {
-        Ok(list) => assert_eq!((code, size), (0, list.len())),
-        Err(given) => assert_eq!(code, *given, "{}", String::from_utf8_lossy(&text)),
-    }
+    check_verdict(&text, &result, plain::book_text_verdict(&text, places));
     let mut mangled = list.clone();
     gen::mangle_list(rng, &mut mangled);
     let result = check_book(&mangled);
@@ -408,11 +412,7 @@ fn reading_round(rng: &mut Rng, shape: &Shape, tally: &mut Tally, large: bool) {
     let places = if rng.chance(1, 3) { rng.below(8) } else { 32 };
     let result = read_direction(&text, places);
     tally.reply("read_direction, mangled", &result);
-    let (code, size) = plain::direction_text_verdict(&text, places);
-    match &result {
-        Ok(words) => assert_eq!((code, size), (0, words.len())),
-        Err(given) => assert_eq!(code, *given, "{}", String::from_utf8_lossy(&text)),
-    }
+    check_verdict(&text, &result, plain::direction_text_verdict(&text, places));
 
     // Directions as numbers, with a good book.
     for code in [0, 9, 10] {
