@@ -1,5 +1,3 @@
-pub mod Calls
-pub mod Lines
 pub mod Counts
 pub mod Triples
 pub mod Cuts

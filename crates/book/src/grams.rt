@@ -1,5 +1,4 @@
 // The triples of a book's T lines, gathered beside the survey: records of four numbers (v, w, y, s), the k-th T line's at 4 * k.
-use crate::line;
 use crate::survey;
 use crate::survey::Survey;
 ghost use mathlib.Core.Path.{_≡_};

@@ -1,6 +1,5 @@
 pub mod entries;
 pub mod grams;
-pub mod line;
 pub mod loaded;
 pub mod survey;
 pub mod target;

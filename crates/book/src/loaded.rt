@@ -1,6 +1,5 @@
 // A loaded list, walked line by line.
 use crate::grams;
-use crate::line;
 use crate::survey;
 use crate::survey::Survey;
 ghost use mathlib.Core.Path.{_≡_};

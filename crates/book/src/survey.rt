@@ -1,6 +1,5 @@
 // What questions 3 to 5 ask of all the lines of a book, gathered one line at a time. The lines of a text and those of a
 // loaded list pass through the same functions.
-use crate::line;
 ghost use mathlib.Core.Path.{_≡_};
 ghost use mathlib.Core.Bool.{_&&_, cond};
 ghost use lib.Dec.{eqb};

@@ -1,5 +1,4 @@
 // Where an entry's target words stand in the loaded list.
-use crate::line;
 use crate::loaded;
 ghost use mathlib.Core.Path.{_≡_};
 ghost use mathlib.Core.Bool.{true, _&&_, cond};

@@ -15,15 +15,16 @@ use Rattle.notes.specs.Direction.{wordCount}
 use Rattle.notes.specs.State.{Hyp, wordsCovered, isBetter}
 use Rattle.notes.specs.Search.{search, answer, entered}
 use Rattle.notes.specs.declared.Refusal.the-variants.{StoreTooSmall}
-use Rattle.store.specs.Answer.{Below, noClose, picked}
-use Rattle.store.specs.Ghost.{Starting}
-use Rattle.store.specs.Shows.{nobody, Lists}
+use Rattle.states.specs.Answer.{Below, noClose, picked}
+use Rattle.states.specs.Ghost.{Starting}
+use Rattle.states.specs.Shows.{nobody, Lists}
 use Rattle.store.specs.declared.Found.{Found}
 use Rattle.store.specs.declared.Found.the-variants.{At, Nothing}
-use Rattle.store.proofs.Back.{start-chains, start-short}
-use Rattle.store.proofs.Ghost.{best-read, search-ends}
-use Rattle.decoder.specs.declared.Core.{Core}
-use Rattle.decoder.specs.Core.{Ends, Told, refusedBy, Concluded, SearchedIf, Searched}
+use Rattle.states.proofs.Back.{start-chains, start-short}
+use Rattle.states.proofs.Ghost.{best-read, search-ends}
+use Rattle.answer.specs.declared.Core.{Core}
+use Rattle.answer.specs.Told.{Ends, Told}
+use Rattle.decoder.specs.Core.{refusedBy, Concluded, SearchedIf, Searched}
 
 module _ (book : Book) (direction : List ℕ) (width : ℤ) {st : List ℤ} {count : ℕ} (B : Starting book direction width (wordCount direction) st count) where
   -- the place k holds a state of the search

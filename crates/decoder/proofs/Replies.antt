@@ -27,14 +27,15 @@ use Rattle.notes.specs.declared.Step.{Step}
 use Rattle.notes.proofs.Answers.{answer-derives, answer-none}
 use Rattle.notes.proofs.Demands.{direction-to}
 use Rattle.notes.proofs.Valid.{proposal-valid}
-use Rattle.derivation.specs.Options.{OptionsOf}
+use Rattle.options.specs.Options.{OptionsOf}
 use Rattle.derivation.specs.Prepared.{Prepared}
 use Rattle.derivation.specs.declared.Task.{Task}
-use Rattle.derivation.proofs.Long.{passes-short}
+use Rattle.proposal.proofs.Long.{passes-short}
 use Rattle.records.specs.Plain.{stepsOf}
-use Rattle.decoder.specs.declared.Core.{Core}
-use Rattle.decoder.specs.Extend.{Ready}
-use Rattle.decoder.specs.Core.{Told, refusedBy, noAnswer, Concluded, SearchedIf, CoreDecodes}
+use Rattle.answer.specs.declared.Core.{Core}
+use Rattle.extending.specs.Extend.{Ready}
+use Rattle.answer.specs.Told.{Told}
+use Rattle.decoder.specs.Core.{refusedBy, noAnswer, Concluded, SearchedIf, CoreDecodes}
 
 -- a valid derivation has no more steps than words
 valid-short : (book : Book) (direction : List ℕ) (steps : List Step) → isValid book direction steps ≡ true → length steps ≤ wordCount direction

@@ -1,13 +1,10 @@
 // Decoding on plain numbers: questions 11 to 15, the search between them, and the answer.
-use crate::Core;
-use crate::Job;
-use crate::answer;
-use crate::levels;
-use derivation::options;
+use answer::Core;
+use extending::Job;
 use notes::Decoded;
 use notes::Refusal;
+use states::Grown;
 use store::Found;
-use store::Grown;
 ghost use mathlib.Core.Path.{_≡_};
 ghost use Prim.Native.Nat.{ℕ, _+_, _*_, _/_, _≤_, _<_};
 ghost use lib.IntN.{pos};
@@ -19,9 +16,9 @@ ghost use mathlib.Core.Bool.{_&&_};
 ghost use lib.Dec.{leb};
 ghost use Rattle.book.specs.Entries.{EntriesAt};
 ghost use Rattle.derivation.specs.Prepared.{Prepared};
-ghost use Rattle.store.specs.Ghost.{Starting};
+ghost use Rattle.states.specs.Ghost.{Starting};
 ghost use Rattle.decoder.specs.Core.{refusedBy, noAnswer, Concluded, Searched, CoreDecodes};
-ghost use Rattle.decoder.specs.Extend.{Choices, Ready};
+ghost use Rattle.extending.specs.Extend.{Choices, Ready};
 
 // A refusal: no steps are written.
 pub fn refused(refusal: Refusal) -> Core
@@ -62,9 +59,9 @@ fn conclude(
     ensures { λ r. ⌜ Concluded (answer (bookOf (now (book .entry))) (now (direction .entry)) (job .width)) (bookOf (now (book .entry))) (job .width) (length (entered (bookOf (now (book .entry))) (now (direction .entry)) (job .width))) (now (words .entry)) (now (words .exit)) r ⌝ }
     ensures { λ r. ⌜ now (store .exit) ≡ replicate (length (now (store .entry))) (pos 0) ⌝ }
 {
-    match store::reading::pick_best(store, count, job.task.n) {
+    match states::reading::pick_best(store, count, job.task.n) {
         Found::Nothing => {
-            store::clearing::clear_used(store, count);
+            clearing::clear_used(store, count);
             refused(no_answer(job.width))
         }
         Found::At(k) => {
@@ -80,7 +77,7 @@ fn conclude(
                 job.task,
                 words,
             );
-            store::clearing::clear_used(store, count);
+            clearing::clear_used(store, count);
             core
         }
     }
@@ -106,8 +103,8 @@ fn search_for_best(
     ensures { λ r. ⌜ Searched (bookOf (now (book .entry))) (now (direction .entry)) (job .width) (length (now (store .entry)) / 8) (now (words .entry)) (now (words .exit)) r ⌝ }
     ensures { λ r. ⌜ now (store .exit) ≡ replicate (length (now (store .entry))) (pos 0) ⌝ }
 {
-    store::clearing::clear(store);
-    match levels::search(
+    clearing::clear(store);
+    match sets::search(
         store,
         book,
         direction,
@@ -120,7 +117,7 @@ fn search_for_best(
         job,
     ) {
         Grown::Overflow => {
-            store::clearing::clear(store);
+            clearing::clear(store);
             refused(Refusal::StoreTooSmall)
         }
         Grown::On(count) => conclude(

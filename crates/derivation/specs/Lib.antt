@@ -1,5 +1,3 @@
 pub mod Model
 pub mod Next
 pub mod Prepared
-pub mod Options
-pub mod Proposal

@@ -1,12 +1,7 @@
 // Steps on plain numbers: what an entry says, where it fits, what it adds to a score, and the state that it leads to.
 pub mod model;
-pub mod options;
 pub mod places;
-pub mod proposal;
 pub mod step;
-
-use notes::Refusal;
-use notes::State;
 
 // The numbers of a book and a direction that every step needs: how many words the direction has, the reordering limit, the
 // penalty, the score of an unseen triple, how many entries and how many triples there are.
@@ -34,10 +29,4 @@ pub struct Phrase {
     pub target: usize,
     pub count: usize,
     pub g: i64,
-}
-
-// What is asked of a proposed step: the state that it leads to, or the question that refuses it.
-pub enum Asked {
-    Next(State),
-    Refused(Refusal),
 }

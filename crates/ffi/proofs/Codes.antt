@@ -8,7 +8,6 @@ use lib.IntN.{ℤ, pos, negℤ, _-ℤ_, +ℤ-idl}
 use lib.ListN.{length, length-map}
 use mir.Syntax.{w32, w64}
 use mir.Val.{toZ, ofZ, SFits}
-use mir.ValLaws.{toZ-pos}
 use Rattle.laws.proofs.Bounds.{within-pos}
 use Rattle.laws.proofs.Got.{Got, nat, lit, sub, fits, kept}
 use Rattle.laws.proofs.Integers.{back-pos}
@@ -19,14 +18,10 @@ use Rattle.laws.specs.Integers.{natOf}
 use Rattle.notes.specs.declared.Read.{Read}
 use Rattle.notes.specs.declared.Read.the-variants.{Numbers, Refused}
 use Rattle.notes.proofs.Chains.{test-passes, rest-passes, done-passes, done-is}
-use Rattle.reading.proofs.Numbered.{number-to}
+use Rattle.loading.proofs.Numbered.{number-to}
 use Rattle.ffi.specs.Bounds.{Counted}
 use Rattle.notes.specs.Questions.{_unless_, number}
 use Rattle.notes.specs.declared.Refusal.{Refusal}
-
--- a count as a signed number
-pub as64 : (n : ℕ) → n < 9_223_372_036_854_775_808 → toZ w64 n ≡ pos n
-as64 n h = toZ-pos w64 n h
 
 -- a code that was handed on
 pub code-back : (z : ℤ) (refusal : Refusal) → z ≡ pos (number refusal) → toZ w32 (ofZ w32 z) ≡ pos (number refusal)

@@ -15,10 +15,11 @@ use Rattle.records.specs.Plain.{stepsOf}
 use Rattle.records.proofs.Laws.{count-steps}
 use Rattle.text.specs.Walk.{filledWith}
 use Rattle.decoder.specs.Core.{CoreDecodes}
-use Rattle.decoder.specs.declared.Core.{Core}
-use Rattle.ffi.specs.Bounds.{Countable}
-use Rattle.ffi.specs.Calls.{recordsIn, zeroOrRefusal, decodeReport, StepsPut, DecodesNumbers}
-use Rattle.ffi.proofs.Threes.{how-many}
+use Rattle.answer.specs.declared.Core.{Core}
+use Rattle.lists.specs.Report.{Countable}
+use Rattle.lists.specs.Steps.{recordsIn, StepsPut}
+use Rattle.ffi.specs.Calls.{zeroOrRefusal, decodeReport, DecodesNumbers}
+use Rattle.lists.proofs.Threes.{how-many}
 
 over-le : {A : Type 0} (xs old : List A) → length xs ≤ length (writtenOver xs old)
 over-le xs old = let a = length-append xs (drop (length xs) old) in omega arith

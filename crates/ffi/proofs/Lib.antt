@@ -1,4 +1,2 @@
 pub mod Codes
 pub mod Decoding
-pub mod Reports
-pub mod Threes

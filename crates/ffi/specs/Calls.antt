@@ -4,13 +4,11 @@ use mathlib.Core.Path.{_≡_}
 use mathlib.Core.List.{List, [], _∷_}
 use lib.IntN.{ℤ, pos, negℤ}
 use lib.ListN.{length, drop}
-use Rattle.notes.specs.Reply.{Reply, refused, done, writtenOver, decodedReply, Decodes}
-use Rattle.notes.specs.declared.Step.{Step}
+use Rattle.notes.specs.Reply.{Reply, refused, done, decodedReply, Decodes}
 use Rattle.notes.specs.declared.Decoded.{Decoded}
 use Rattle.notes.specs.declared.Decoded.the-variants.{Done, Refused}
-use Rattle.records.specs.Plain.{stepsOf}
-use Rattle.records.specs.declared.Plain.{Plain}
 use Rattle.text.specs.Walk.{filledWith}
+use Rattle.lists.specs.Steps.{recordsIn}
 
 -- "numbers written, or minus the refusal"
 abbrev pub countOrRefusal : Reply ℕ → ℤ
@@ -21,19 +19,6 @@ countOrRefusal (refused k) = negℤ (pos k)
 abbrev pub zeroOrRefusal : {A : Type 0} → Reply A → ℤ
 zeroOrRefusal (done a) = pos 0
 zeroOrRefusal (refused k) = pos k
-
--- "Steps are three numbers each (first, last, entry); numbers left over behind the last whole step are no place."
-abbrev pub recordsIn : List ℕ → List Step
-recordsIn [] = []
-recordsIn (first ∷ []) = []
-recordsIn (first ∷ last ∷ []) = []
-recordsIn (first ∷ last ∷ entry ∷ numbers) = record { first = first; last = last; entry = entry } ∷ recordsIn numbers
-
--- the steps were written at the beginning of the numbers, and the numbers left over are as before
-pub record StepsPut (plain : Plain) (steps₀ steps₁ : List ℕ) : Type 0 where
-  pub records : recordsIn steps₁ ≡ writtenOver (stepsOf plain) (recordsIn steps₀)
-  pub same-length : length steps₁ ≡ length steps₀
-  pub left-over : drop (3 * length (recordsIn steps₀)) steps₁ ≡ drop (3 * length (recordsIn steps₀)) steps₀
 
 -- what a scoring reports: "score"; "nothing on a refusal"
 abbrev pub scoreReport : Reply ℤ → List ℤ

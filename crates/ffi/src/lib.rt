@@ -4,10 +4,6 @@ use notes::Decoded;
 use notes::Read;
 use notes::Refusal;
 use notes::Scored;
-
-mod report;
-mod steps;
-
 ghost use mathlib.Core.Path.{_≡_};
 ghost use lib.IntN.{pos};
 ghost use lib.ListN.{length};
@@ -16,7 +12,8 @@ ghost use Rattle.notes.specs.Book.{bookRefusal, targetPart};
 ghost use Rattle.notes.specs.Reply.{readReply, readBook, readBookList, readDirection, readDirectionList, scoreProposal};
 ghost use Rattle.text.specs.Walk.{filledWith};
 ghost use Rattle.ffi.specs.Bounds.{Counted};
-ghost use Rattle.ffi.specs.Calls.{countOrRefusal, zeroOrRefusal, recordsIn, scoreReport, DecodesNumbers};
+ghost use Rattle.lists.specs.Steps.{recordsIn};
+ghost use Rattle.ffi.specs.Calls.{countOrRefusal, zeroOrRefusal, scoreReport, DecodesNumbers};
 
 // The refusal's number as C has it.
 fn code_of(refusal: Refusal) -> i32
@@ -42,7 +39,7 @@ pub extern "C" fn phrase_read_book(text: &[u8], book: &mut [i32]) -> i64
     ensures { λ r. ⌜ r ≡ countOrRefusal (readBook (now (text .entry)) (length (now (book .entry)))) ⌝ }
     ensures { λ _. ⌜ now (book .exit) ≡ readBookList (now (text .entry)) (now (book .entry)) ⌝ }
 {
-    let reply = reading::read::read_book(text, book);
+    let reply = reading::read_book(text, book);
     count_or_refusal(reply)
 }
 
@@ -61,7 +58,7 @@ pub extern "C" fn phrase_read_direction(text: &[u8], direction: &mut [u16]) -> i
 pub extern "C" fn phrase_check_book(book: &[i32]) -> i32
     ensures { λ r. ⌜ r ≡ pos (bookRefusal (now (book .entry))) ⌝ }
 {
-    match reading::check::check_book(book) {
+    match loading::check::check_book(book) {
         Checked::Passed => 0,
         Checked::Refused(refusal) => code_of(refusal),
     }
@@ -72,7 +69,7 @@ pub extern "C" fn phrase_check_book(book: &[i32]) -> i32
 pub extern "C" fn phrase_target_start(book: &[i32], entry: usize) -> i64
     ensures { λ r. ⌜ r ≡ pos (targetPart (now (book .entry)) entry .start) ⌝ }
 {
-    let part = reading::check::target_part(book, entry);
+    let part = loading::check::target_part(book, entry);
     part.start as i64
 }
 
@@ -81,7 +78,7 @@ pub extern "C" fn phrase_target_start(book: &[i32], entry: usize) -> i64
 pub extern "C" fn phrase_target_count(book: &[i32], entry: usize) -> i64
     ensures { λ r. ⌜ r ≡ pos (targetPart (now (book .entry)) entry .size) ⌝ }
 {
-    let part = reading::check::target_part(book, entry);
+    let part = loading::check::target_part(book, entry);
     part.size as i64
 }
 
@@ -96,10 +93,10 @@ pub extern "C" fn phrase_score(
     ensures { λ r. ⌜ r ≡ zeroOrRefusal (scoreProposal (now (book .entry)) (now (direction .entry)) (recordsIn (now (steps .entry)))) ⌝ }
     ensures { λ _. ⌜ now (report .exit) ≡ filledWith (scoreReport (scoreProposal (now (book .entry)) (now (direction .entry)) (recordsIn (now (steps .entry))))) (now (report .entry)) ⌝ }
 {
-    let plain = steps::gather(steps);
-    match prepare::score_plain(book, direction, plain) {
+    let plain = lists::steps::gather(steps);
+    match plain::score_plain(book, direction, plain) {
         Scored::Score(score) => {
-            report::put_score(report, score);
+            lists::report::put_score(report, score);
             0
         }
         Scored::Refused(refusal) => code_of(refusal),
@@ -120,13 +117,13 @@ pub extern "C" fn phrase_decode(
     ensures { λ r. ⌜ DecodesNumbers (now (book .entry)) (now (direction .entry)) width (now (steps .entry)) (now (steps .exit)) (now (words .entry)) (now (words .exit)) (now (store .entry)) (now (store .exit)) (now (report .entry)) (now (report .exit)) r ⌝ }
 {
     let room = steps.len() / 3;
-    let core = phrase::plain::decode_plain(book, direction, width, room, words, store);
+    let core = plain::decode_plain(book, direction, width, room, words, store);
     let plain = core.plain;
-    steps::put_all(steps, plain);
+    lists::steps::put_all(steps, plain);
     let reply = core.reply;
     match reply {
         Decoded::Done(a) => {
-            report::put_answer(report, a);
+            lists::report::put_answer(report, a);
             0
         }
         Decoded::Refused(refusal) => code_of(refusal),

@@ -13,7 +13,7 @@ use Rattle.notes.specs.Reply.{Reply, reply, stepsRefusal, proposalRefusal, scor
 use Rattle.notes.specs.declared.Step.{Step}
 use Rattle.notes.specs.declared.Scored.{Scored}
 use Rattle.notes.proofs.Demands.{direction-to}
-use Rattle.derivation.proofs.Long.{front-decides}
+use Rattle.proposal.proofs.Long.{front-decides}
 use Rattle.records.specs.declared.Plain.{Plain}
 use Rattle.records.specs.Plain.{stepsOf, Gathered}
 

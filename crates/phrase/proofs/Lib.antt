@@ -1,3 +1,2 @@
 pub mod Demanded
 pub mod Front
-pub mod Whole

@@ -19,8 +19,8 @@ use Rattle.book.specs.declared.survey.Survey.{Survey}
 use Rattle.book.specs.Loaded.{sizeAt}
 use Rattle.book.specs.Entries.{EntriesAt}
 use Rattle.book.proofs.Cuts.{LineAt, line-here, line-number, lines-end}
-use Rattle.reading.specs.Loaded.{Ready}
-use Rattle.reading.proofs.Numbered.{number-from, refused-first}
+use Rattle.loading.specs.Loaded.{Ready}
+use Rattle.loading.proofs.Numbered.{number-from, refused-first}
 use Rattle.derivation.specs.declared.Task.{Task}
 use Rattle.derivation.specs.Model.{Model, modelScore}
 use Rattle.prepare.specs.declared.Start.{Start}

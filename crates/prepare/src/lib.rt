@@ -2,20 +2,15 @@
 // lists and the numbers that a search or a score works on.
 use book::entries;
 use derivation::Task;
-use derivation::proposal;
+use loading::load;
+use loading::load::Loaded;
 use notes::Checked;
 use notes::Refusal;
-use notes::Scored;
-use reading::load;
-use reading::load::Loaded;
-use records::Plain;
 ghost use mathlib.Core.Path.{_≡_};
 ghost use Prim.Native.Nat.{_≤_};
 ghost use lib.ListN.{length};
 ghost use Rattle.notes.specs.Book.{bookRefusal, bookOf};
-ghost use Rattle.notes.specs.Reply.{scoredReply, scoreProposal};
 ghost use Rattle.triples.specs.Grams.{Room};
-ghost use Rattle.records.specs.Plain.{stepsOf};
 ghost use Rattle.prepare.specs.Start.{TaskOf, Begun, StartOf};
 
 // What the questions of the book and of the direction answer: the numbers that a search or a score works on, or the refusal.
@@ -29,9 +24,9 @@ pub fn task_of(book: &[i32], n: usize, phrases: usize, triples: usize) -> Task
     requires { ⌜ bookRefusal (now book) ≡ 0 ⌝ }
     ensures { λ t. ⌜ TaskOf (bookOf (now (book .entry))) n phrases triples t ⌝ }
 {
-    let limit = book::line::natural_at(book, 1);
-    let eta = book::line::number_at(book, 2);
-    let unseen = book::line::number_at(book, 3);
+    let limit = line::natural_at(book, 1);
+    let eta = line::number_at(book, 2);
+    let unseen = line::number_at(book, 3);
     Task {
         n,
         limit,
@@ -75,39 +70,5 @@ pub fn prepare(
     match load::load(book, grams, heads, links) {
         Loaded::Book(s) => begin(book, direction, s.ts, entries),
         Loaded::Refused(refusal) => Start::Refused(refusal),
-    }
-}
-
-// "Scoring a proposed list", of at most 33 steps as plain numbers: 2 to 6, 9, 10 and 16 to 19, and the score where none refuses.
-pub fn score_plain(book: &[i32], direction: &[u16], plain: Plain) -> Scored
-    requires { ⌜ plain .count ≤ 33 ⌝ }
-    ensures { λ r. ⌜ scoredReply r ≡ scoreProposal (now (book .entry)) (now (direction .entry)) (stepsOf plain) ⌝ }
-{
-    let mut grams = [0i32; 32768];
-    let mut heads = [0u16; 8192];
-    let mut links = [0u16; 8192];
-    let mut entries = [0usize; 4096];
-    let steps = plain.numbers;
-    let count = plain.count;
-    match prepare(
-        book,
-        direction,
-        &mut grams,
-        &mut heads,
-        &mut links,
-        &mut entries,
-    ) {
-        Start::Ready(t) => proposal::score_steps(
-            book,
-            &entries,
-            &grams,
-            &heads,
-            &links,
-            t,
-            direction,
-            &steps,
-            count,
-        ),
-        Start::Refused(refusal) => Scored::Refused(refusal),
     }
 }

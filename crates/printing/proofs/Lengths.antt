@@ -15,8 +15,9 @@ use Rattle.notes.specs.State.{scoreBound}
 use Rattle.notes.specs.declared.Step.{Step}
 use Rattle.records.specs.Plain.{stepIn, stepsOf}
 use Rattle.records.proofs.Laws.{count-steps, step-at}
-use Rattle.printing.specs.Put.{field, plainOf}
-use Rattle.printing.proofs.Digits.{at-most, negative}
+use Rattle.printing.specs.Lines.{plainOf}
+use Rattle.decimals.specs.Put.{field}
+use Rattle.decimals.proofs.Digits.{at-most, negative}
 use Rattle.printing.proofs.Lines.{line-1-long, line-3-long, line-4-long, line-of-long, three-long}
 
 -- ---- numbers

@@ -10,7 +10,8 @@ use Rattle.notes.specs.Numerals.{newline, comma}
 use Rattle.notes.specs.Render.{decimal, printedLine, printedStep, printedAnswer}
 use Rattle.records.specs.Plain.{stepsOf}
 use Rattle.records.proofs.Laws.{count-steps}
-use Rattle.printing.specs.Put.{field, lastThree, outcomeOf, plainOf}
+use Rattle.printing.specs.Lines.{lastThree, outcomeOf, plainOf}
+use Rattle.decimals.specs.Put.{field}
 
 -- a line of one number
 pub line-1 : (l : ℕ) (a : ℤ) → printedLine l (a ∷ []) ≡ (l ∷ []) ++ field a ++ (newline ∷ [])

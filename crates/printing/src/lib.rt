@@ -1,5 +1,5 @@
-// What the rendering program prints, put into a lent list of bytes from a place on. Each function answers the place after
-// its bytes, so that the next can go on from there; specs/Put says what each leaves in the list.
+// What the rendering program prints, a line at a time, put into a lent list of bytes from a place on, as crate `decimals` puts its
+// numbers.
 ghost use mathlib.Core.Path.{_≡_};
 ghost use mathlib.Core.List.{_∷_, [], map};
 ghost use Prim.Native.Nat.{_+_, _*_, _^_, _≤_};
@@ -7,80 +7,20 @@ ghost use lib.IntN.{pos};
 ghost use lib.ListN.{length};
 ghost use Rattle.laws.specs.Integers.{Within};
 ghost use Rattle.laws.specs.Lists.{concat};
-ghost use Rattle.notes.specs.Render.{decimal, printedLine, printedStep, printedRefusal, printedAnswer};
+ghost use Rattle.notes.specs.Render.{printedLine, printedStep, printedRefusal, printedAnswer};
 ghost use Rattle.records.specs.Plain.{stepsOf};
-ghost use Rattle.printing.specs.Put.{Put, field, lastThree, outcomeOf, plainOf};
+ghost use Rattle.decimals.specs.Put.{Put, field};
+ghost use Rattle.printing.specs.Lines.{lastThree, outcomeOf, plainOf};
 use notes::Step;
-
-// Puts one byte at a place.
-pub fn put_byte(out: &mut [u8], at: usize, b: u8) -> usize
-    requires { ⌜ at + 1 ≤ length (now out) ⌝ }
-    ensures { λ r. ⌜ Put (b ∷ []) at r (now (out .entry)) (now (out .exit)) ⌝ }
-{
-    out[at] = b;
-    at + 1
-}
-
-// How many digits a number has: 1 to 20.
-pub fn digit_count(n: usize) -> usize
-    ensures { λ r. ⌜ r ≡ length (decimal (pos n)) ⌝ }
-{
-    let mut rest = n;
-    let mut k = 1;
-    while rest >= 10 {
-        rest = rest / 10;
-        k += 1;
-    }
-    k
-}
-
-// Puts the digits of a number, the last one first.
-pub fn put_natural(out: &mut [u8], at: usize, n: usize) -> usize
-    requires { ⌜ at + length (decimal (pos n)) ≤ length (now out) ⌝ }
-    ensures { λ r. ⌜ Put (decimal (pos n)) at r (now (out .entry)) (now (out .exit)) ⌝ }
-{
-    let end = at + digit_count(n);
-    let mut i = end - 1;
-    let mut rest = n;
-    while rest >= 10 {
-        out[i] = (48 + rest % 10) as u8;
-        rest = rest / 10;
-        i -= 1;
-    }
-    out[i] = (48 + rest) as u8;
-    end
-}
-
-// Puts a number that may be negative. Its size is held to 2 to the 62, so that its opposite is a number too.
-pub fn put_number(out: &mut [u8], at: usize, z: i64) -> usize
-    requires { ⌜ Within (2 ^ 62) z ⌝ }
-    requires { ⌜ at + length (decimal z) ≤ length (now out) ⌝ }
-    ensures { λ r. ⌜ Put (decimal z) at r (now (out .entry)) (now (out .exit)) ⌝ }
-{
-    if z < 0 {
-        let digits = put_byte(out, at, 45);
-        return put_natural(out, digits, (0 - z) as usize);
-    }
-    put_natural(out, at, z as usize)
-}
-
-// Puts a number of a line, after its comma.
-pub fn put_field(out: &mut [u8], at: usize, n: usize) -> usize
-    requires { ⌜ at + length (field (pos n)) ≤ length (now out) ⌝ }
-    ensures { λ r. ⌜ Put (field (pos n)) at r (now (out .entry)) (now (out .exit)) ⌝ }
-{
-    let digits = put_byte(out, at, 44);
-    put_natural(out, digits, n)
-}
 
 // Puts the line of a refusal.
 pub fn put_refusal(out: &mut [u8], at: usize, k: usize) -> usize
     requires { ⌜ at + length (printedRefusal k) ≤ length (now out) ⌝ }
     ensures { λ r. ⌜ Put (printedRefusal k) at r (now (out .entry)) (now (out .exit)) ⌝ }
 {
-    let number = put_byte(out, at, 82);
-    let end = put_field(out, number, k);
-    put_byte(out, end, 10)
+    let number = decimals::put_byte(out, at, 82);
+    let end = decimals::put_field(out, number, k);
+    decimals::put_byte(out, end, 10)
 }
 
 // Puts the last three numbers of a line, and its end.
@@ -88,10 +28,10 @@ fn put_last_three(out: &mut [u8], at: usize, a: usize, b: usize, c: usize) -> us
     requires { ⌜ at + length (lastThree a b c) ≤ length (now out) ⌝ }
     ensures { λ r. ⌜ Put (lastThree a b c) at r (now (out .entry)) (now (out .exit)) ⌝ }
 {
-    let second = put_field(out, at, a);
-    let third = put_field(out, second, b);
-    let end = put_field(out, third, c);
-    put_byte(out, end, 10)
+    let second = decimals::put_field(out, at, a);
+    let third = decimals::put_field(out, second, b);
+    let end = decimals::put_field(out, third, c);
+    decimals::put_byte(out, end, 10)
 }
 
 // Puts the line of a step.
@@ -99,7 +39,7 @@ pub fn put_step(out: &mut [u8], at: usize, step: Step) -> usize
     requires { ⌜ at + length (printedStep step) ≤ length (now out) ⌝ }
     ensures { λ r. ⌜ Put (printedStep step) at r (now (out .entry)) (now (out .exit)) ⌝ }
 {
-    let numbers = put_byte(out, at, 83);
+    let numbers = decimals::put_byte(out, at, 83);
     put_last_three(
         out,
         numbers,
@@ -122,9 +62,9 @@ pub fn put_counts(
     requires { ⌜ at + length (printedLine 65 (score ∷ pos steps ∷ pos words ∷ pos states ∷ [])) ≤ length (now out) ⌝ }
     ensures { λ r. ⌜ Put (printedLine 65 (score ∷ pos steps ∷ pos words ∷ pos states ∷ [])) at r (now (out .entry)) (now (out .exit)) ⌝ }
 {
-    let comma = put_byte(out, at, 65);
-    let number = put_byte(out, comma, 44);
-    let counts = put_number(out, number, score);
+    let comma = decimals::put_byte(out, at, 65);
+    let number = decimals::put_byte(out, comma, 44);
+    let counts = decimals::put_number(out, number, score);
     put_last_three(out, counts, steps, words, states)
 }
 
@@ -136,7 +76,7 @@ pub fn put_fields(out: &mut [u8], at: usize, words: &[u16]) -> usize
     let mut next = at;
     let mut i = 0;
     while i < words.len() {
-        next = put_field(out, next, words[i] as usize);
+        next = decimals::put_field(out, next, words[i] as usize);
         i += 1;
     }
     next
@@ -147,9 +87,9 @@ pub fn put_words(out: &mut [u8], at: usize, words: &[u16]) -> usize
     requires { ⌜ at + length (printedLine 87 (map pos (now words))) ≤ length (now out) ⌝ }
     ensures { λ r. ⌜ Put (printedLine 87 (map pos (now (words .entry)))) at r (now (out .entry)) (now (out .exit)) ⌝ }
 {
-    let first = put_byte(out, at, 87);
+    let first = decimals::put_byte(out, at, 87);
     let end = put_fields(out, first, words);
-    put_byte(out, end, 10)
+    decimals::put_byte(out, end, 10)
 }
 
 // Puts the lines of `count` steps, which stand in `plain` as three numbers each: first, last, entry.

@@ -1,5 +1,3 @@
-pub mod Numbered
-pub mod Answers
-pub mod Replies
 pub mod Walk
 pub mod Reading
+pub mod TextReplies

@@ -11,10 +11,10 @@ use lib.ListN.{length, drop, length-append, drop-of-length-le}
 use Rattle.laws.specs.Lists.{all}
 use Rattle.laws.proofs.Tests.{clash}
 use Rattle.notes.specs.Book.{isWhole, isBookText, textLines, loadedOf}
-use Rattle.text.specs.Scan.{Line, run, atLine, emitLine}
-use Rattle.text.specs.Fields.{RowRead}
+use Rattle.fields.specs.Scan.{Line, run, atLine, emitLine}
+use Rattle.text.specs.Walk.{RowRead}
 use Rattle.text.specs.declared.TextLine.{TextLine}
-use Rattle.text.proofs.Form.{book-text, book-run}
+use Rattle.fields.proofs.Form.{book-text, book-run}
 use Rattle.text.proofs.Lines.{At, at-start, at-end, loaded-end}
 use Rattle.text.proofs.InRow.{NextRow, next-row, emit-few}
 use Rattle.text.proofs.Whole.{four-numbers}

@@ -11,11 +11,11 @@ use Rattle.notes.specs.Book.{isBookText, isWhole, textLines, loadedOf, linesRef
 use Rattle.notes.specs.declared.Read.{Read}
 use Rattle.notes.specs.declared.Read.the-variants.{Numbers, Refused as ReadRefused}
 use Rattle.book.specs.declared.survey.Survey.{Survey}
-use Rattle.reading.specs.declared.load.Loaded.{Loaded}
-use Rattle.reading.specs.declared.load.Loaded.the-variants.{Book as Passes, Refused}
-use Rattle.reading.specs.declared.read.TextSurvey.{TextSurvey}
-use Rattle.reading.specs.declared.read.TextSurvey.the-variants.{Whole, Broken}
-use Rattle.reading.specs.Loaded.{WholeAs}
+use Rattle.loading.specs.declared.load.Loaded.{Loaded}
+use Rattle.loading.specs.declared.load.Loaded.the-variants.{Book as Passes, Refused}
+use Rattle.reading.specs.declared.TextSurvey.{TextSurvey}
+use Rattle.reading.specs.declared.TextSurvey.the-variants.{Whole, Broken}
+use Rattle.loading.specs.Loaded.{WholeAs}
 
 -- questions 1 to 6
 abbrev pub textRefusal : List ℕ → ℕ

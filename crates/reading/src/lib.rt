@@ -1,4 +1,106 @@
-// Books: loading one for a search (questions 2 to 6), checking one, an entry's target words, and reading a book's text.
-pub mod check;
-pub mod load;
-pub mod read;
+// Reading a book's text: questions 1 to 7, and its numbers.
+use book::grams;
+use book::survey;
+use book::survey::Survey;
+use loading::load;
+use loading::load::Loaded;
+use notes::Read;
+use notes::Refusal;
+ghost use mathlib.Core.Path.{_≡_};
+ghost use mathlib.Core.Bool.{true, false};
+ghost use Prim.Native.Nat.{_≤_};
+ghost use lib.ListN.{length};
+ghost use Rattle.laws.specs.Lists.{all};
+ghost use Rattle.notes.specs.Questions.{number};
+ghost use Rattle.notes.specs.Book.{isBookText, isWhole, textLines, loadedOf};
+ghost use Rattle.notes.specs.Reply.{readReply, reply, readBook, readBookList};
+ghost use Rattle.reading.specs.Text.{TextSurveyIs, textRefusal, countedAs};
+
+// What is known of the lines of a text that are all good and whole, and how many numbers they have; or that one is not.
+enum TextSurvey {
+    Whole { survey: Survey, count: usize },
+    Broken,
+}
+
+// Surveys a text, whatever it is; `grams` gets the triples of its T lines. Where a line is not good, or not whole, what `grams`
+// holds afterwards is not said. No whole line has more than 20 numbers.
+fn survey_text(text: &[u8], grams: &mut [i32]) -> TextSurvey
+    requires { ⌜ 32_768 ≤ length (now grams) ⌝ }
+    ensures { λ r. ⌜ TextSurveyIs (now (text .entry)) (now (grams .entry)) (now (grams .exit)) r ⌝ }
+{
+    if text.len() == 0 {
+        return TextSurvey::Broken;
+    }
+    let mut row = [0i32; 20];
+    let mut acc = survey::fresh();
+    let mut count: usize = 0;
+    let mut at: usize = 0;
+    while at < text.len() {
+        let read = text::read_row(text, at, &mut row);
+        if !read.good {
+            return TextSurvey::Broken;
+        }
+        let n = read.count;
+        if 20 < n {
+            return TextSurvey::Broken;
+        }
+        if !line::is_whole(&row[..n]) {
+            return TextSurvey::Broken;
+        }
+        acc = grams::note_line(acc, grams, &row[..n]);
+        count += n;
+        at = read.end;
+    }
+    TextSurvey::Whole { survey: acc, count }
+}
+
+// Questions 1 and 2, of a text whose lines are not all good and whole.
+fn refusal_of(text: &[u8]) -> Refusal
+    requires { ⌜ (isBookText (now text) ≡ true → all isWhole (textLines (now text)) ≡ false) ⌝ }
+    ensures { λ r. ⌜ textRefusal (now (text .entry)) ≡ number r ⌝ }
+{
+    if text::is_book_text(text) {
+        return Refusal::LineFields;
+    }
+    Refusal::BookText
+}
+
+// The answer of questions 2 to 6, with the count of the numbers where none refuses.
+fn counted(loaded: Loaded, count: usize) -> Read
+    ensures { λ r. ⌜ r ≡ countedAs loaded count ⌝ }
+{
+    match loaded {
+        Loaded::Book(_) => Read::Numbers(count),
+        Loaded::Refused(refusal) => Read::Refused(refusal),
+    }
+}
+
+// Questions 1 to 6, of a text; how many numbers it has.
+fn check_text(text: &[u8]) -> Read
+    ensures { λ r. ⌜ readReply r ≡ reply (textRefusal (now (text .entry))) (length (loadedOf (now (text .entry)))) ⌝ }
+{
+    let mut grams = [0i32; 32768];
+    let mut heads = [0u16; 8192];
+    let mut links = [0u16; 8192];
+    let surveyed = survey_text(text, &mut grams);
+    let TextSurvey::Whole { survey, count } = surveyed else {
+        return Read::Refused(refusal_of(text));
+    };
+    let loaded = load::settle_whole(survey, &grams, &mut heads, &mut links);
+    counted(loaded, count)
+}
+
+// Reads a book's text into a lent list, and says how many numbers it wrote; a refusal changes nothing.
+pub fn read_book(text: &[u8], book: &mut [i32]) -> Read
+    ensures { λ r. ⌜ readReply r ≡ readBook (now (text .entry)) (length (now (book .entry))) ⌝ }
+    ensures { λ _. ⌜ now (book .exit) ≡ readBookList (now (text .entry)) (now (book .entry)) ⌝ }
+{
+    let checked = check_text(text);
+    let Read::Numbers(count) = checked else {
+        return checked;
+    };
+    if book.len() < count {
+        return Read::Refused(Refusal::ListTooShort);
+    }
+    Read::Numbers(text::write_numbers(text, book))
+}

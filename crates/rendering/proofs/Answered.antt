@@ -19,9 +19,9 @@ use Rattle.notes.proofs.Demands.{decode-bound}
 use Rattle.records.specs.declared.Plain.{Plain}
 use Rattle.records.specs.Plain.{stepsTo, stepsOf}
 use Rattle.records.proofs.Laws.{count-steps, first-steps, same-steps, over-same}
-use Rattle.decoder.specs.declared.Core.{Core}
+use Rattle.answer.specs.declared.Core.{Core}
 use Rattle.decoder.specs.Core.{CoreDecodes}
-use Rattle.printing.specs.Put.{outcomeOf, plainOf}
+use Rattle.printing.specs.Lines.{outcomeOf, plainOf}
 use Rattle.rendering.specs.Parts.{FitsDecoded, printedDone, printedDecoded, decodeOff}
 
 module _ (loaded : List ℤ) (direction : List ℕ) (p : Plain) (few : p .count ≤ 32) (words₀ words₁ : List ℕ) (long : length words₁ ≡ 256) where

@@ -10,10 +10,10 @@ use Rattle.notes.specs.Questions.{number}
 use Rattle.notes.specs.Render.{printedRefusal}
 use Rattle.notes.specs.declared.Answer.{Answer}
 use Rattle.notes.specs.declared.Refusal.{Refusal}
-use Rattle.reading.proofs.Numbered.{number-to}
+use Rattle.loading.proofs.Numbered.{number-to}
 use Rattle.records.proofs.Laws.{count-steps}
 use Rattle.records.specs.Plain.{stepsOf}
-use Rattle.printing.specs.Put.{outcomeOf, plainOf}
+use Rattle.printing.specs.Lines.{outcomeOf, plainOf}
 use Rattle.printing.proofs.Lengths.{refusal-short, answer-short, steps-small}
 use Rattle.rendering.specs.Parts.{Fits, printedDone}
 

@@ -15,7 +15,7 @@ use Rattle.notes.specs.declared.Answer.{Answer}
 use Rattle.notes.specs.declared.Decoded.{Decoded}
 use Rattle.notes.specs.declared.Decoded.the-variants.{Done, Refused}
 use Rattle.records.specs.Plain.{stepsOf}
-use Rattle.printing.specs.Put.{outcomeOf, plainOf}
+use Rattle.printing.specs.Lines.{outcomeOf, plainOf}
 
 -- the list begins with r bytes of which P holds, and the places beyond them are as before
 pub record Begins (P : List ℕ → Type 0) (r : ℕ) (old out : List ℕ) : Type 0 where

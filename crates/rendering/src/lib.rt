@@ -7,7 +7,7 @@ ghost use lib.ListN.{length, take};
 ghost use Rattle.notes.specs.Book.{bookOf};
 ghost use Rattle.notes.specs.Direction.{readDirectionRefusal};
 ghost use Rattle.notes.specs.Render.{PrintsReply, Renders};
-ghost use Rattle.printing.specs.Put.{Put};
+ghost use Rattle.decimals.specs.Put.{Put};
 ghost use Rattle.rendering.specs.Parts.{Begins, Fits, FitsDecoded, printedDone, printedDecoded, decodeOff, PrintsRead};
 use notes::Answer;
 use notes::Decoded;
@@ -61,7 +61,7 @@ fn put_decode(out: &mut [u8], book: &[i32], direction: &[u16]) -> usize
 {
     let mut words = [0u16; 256];
     let mut store = [0i64; 4096];
-    let core = phrase::plain::decode_plain(book, direction, -1, 32, &mut words, &mut store);
+    let core = plain::decode_plain(book, direction, -1, 32, &mut words, &mut store);
     let numbers = core.plain.numbers;
     let decoded = core.reply;
     put_decoded(out, decoded, &numbers, &words)
@@ -88,7 +88,7 @@ pub fn render(book: &[u8], direction: &[u8], out: &mut [u8; 4096]) -> usize
         return printing::put_refusal(out, 0, 7);
     }
     let mut loaded = [0i32; 8192];
-    match reading::read::read_book(book, &mut loaded) {
+    match reading::read_book(book, &mut loaded) {
         Read::Numbers(n) => put_direction(out, &loaded[..n], direction),
         Read::Refused(refusal) => printing::put_refusal(out, 0, notes::number_of(refusal)),
     }

@@ -4,12 +4,9 @@
 // A head or a link is 1 + a place, or 0 for none.
 use notes::State;
 
-pub mod clearing;
 pub mod index;
 pub mod numbers;
-pub mod paths;
 pub mod places;
-pub mod reading;
 
 // What a place holds: a state, how many words it covers, the place of the state that was extended and the option that extended it.
 pub struct Place {
@@ -31,16 +28,4 @@ pub enum Added {
     Kept,
     Appended,
     Full,
-}
-
-// For the search's loops: how many states there are then, or the store is too small.
-pub enum Grown {
-    On(usize),
-    Overflow,
-}
-
-// The best score of some states, if there are any.
-pub struct Top {
-    pub any: bool,
-    pub score: i64,
 }

@@ -8,13 +8,14 @@ use native.Mathlib.Numerals.{add-one}
 use lib.IntN.{ℤ}
 use lib.ListN.{length, take, drop, set}
 use Rattle.laws.proofs.Tests.{by-test, clash}
-use Rattle.text.specs.Scan.{Scan, Line, Field, next, run, atLine, scanned, emit, emitLine}
-use Rattle.text.specs.Walk.{lineLength}
-use Rattle.text.specs.Fields.{start, FieldRead, RowRead}
-use Rattle.text.specs.declared.Piece.{Piece}
-use Rattle.text.proofs.Cut.{Sort, sort}
+use Rattle.fields.specs.Scan.{Scan, Line, Field, next, run, atLine, scanned, emit, emitLine}
+use Rattle.fields.specs.Fields.{lineLength}
+use Rattle.text.specs.Walk.{RowRead}
+use Rattle.fields.specs.Fields.{start, FieldRead}
+use Rattle.fields.specs.declared.Piece.{Piece}
+use Rattle.fields.proofs.Cut.{Sort, sort}
 use Rattle.text.proofs.Row.{Writing, write-start, write-put, write-count, write-end, filled-length}
-use Rattle.text.proofs.Fields.{field-ends, walk-end}
+use Rattle.fields.proofs.Fields.{field-ends, walk-end}
 use Rattle.text.proofs.Numbers.{book-numbers}
 use Rattle.text.proofs.Lines.{At, next-line, loaded-next}
 use Rattle.notes.specs.Book.{textLines, loadedOf}

@@ -1,9 +1,5 @@
-pub mod Cut
-pub mod Digits
-pub mod Form
 pub mod Numbers
 pub mod Row
 pub mod Lines
 pub mod Whole
-pub mod Fields
 pub mod InRow

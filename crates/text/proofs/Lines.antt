@@ -12,8 +12,8 @@ use Rattle.laws.specs.Lists.{isEmpty, concat}
 use Rattle.laws.proofs.Tests.{both, clash}
 use Rattle.notes.specs.Book.{isTextLine, lineNumbers, isBookText, textLines, loadedOf}
 use Rattle.notes.specs.Numerals.{linesOf, split}
-use Rattle.text.specs.Walk.{lineLength}
-use Rattle.text.proofs.Cut.{line, cut, left, Sort, sort, isBlank, isRest, not-blank, lines-are, book-is, book-empty}
+use Rattle.fields.specs.Fields.{lineLength}
+use Rattle.fields.proofs.Cut.{line, cut, left, Sort, sort, isBlank, isRest, not-blank, lines-are, book-is, book-empty}
 
 -- ════ one line of a text
 

@@ -14,9 +14,9 @@ use Rattle.laws.proofs.Tests.{both, clash}
 use Rattle.notes.specs.Numerals.{isDigit, digitsValue, valueOf}
 use Rattle.notes.specs.Book.{lineNumbers, isBookText, textLines, loadedOf}
 use Rattle.notes.specs.Direction.{isDirectionText, directionNumbers}
-use Rattle.text.specs.Scan.{Scan, Line, Kind, Field, Minus, Digits, Broken, moreDigits, next, lineStart, afterNumber, run, atLine, signed, scanned, isMark, emit}
-use Rattle.text.proofs.Cut.{Cut, line, cut, Sort, sort, areNumbers, isRest, book-is, book-empty, direction-is, lines-are}
-use Rattle.text.proofs.Form.{accepted, stop, no-line, kindOfByte, kind-is, letterBy, numberBy, positiveBy, digitsBy}
+use Rattle.fields.specs.Scan.{Scan, Line, Kind, Field, Minus, Digits, Broken, moreDigits, next, lineStart, afterNumber, run, atLine, signed, scanned, isMark, emit}
+use Rattle.fields.proofs.Cut.{Cut, line, cut, Sort, sort, areNumbers, isRest, book-is, book-empty, direction-is, lines-are}
+use Rattle.fields.proofs.Form.{accepted, stop, no-line, kindOfByte, kind-is, letterBy, numberBy, positiveBy, digitsBy}
 
 -- the numbers of the lines that have their byte 10
 abbrev inLines : List (List (List ℕ)) → List ℤ

@@ -1,8 +1,7 @@
 // Cases of reading and of checking a book. A text is read into a list that is full of one number; a case's line says what was
 // answered, and what the list holds afterwards.
+use loading::check;
 use notes::Read;
-use reading::check;
-use reading::read;
 
 // What the lent list is full of: a number that no text has.
 const FILLED: i32 = 987_654_321;
@@ -32,7 +31,7 @@ fn told(reply: Read, list: &[i32]) {
 // Reads a book's text into the first `places` of the list.
 fn read_into(text: &[u8], places: usize, list: &mut [i32]) {
     if places <= list.len() {
-        let reply = read::read_book(text, &mut list[..places]);
+        let reply = reading::read_book(text, &mut list[..places]);
         told(reply, list);
     }
 }
@@ -91,7 +90,7 @@ fn told_large(reply: Read, list: &[i32], expected: &[i32]) {
 // Reads a large book's text into the first `places` of the list.
 fn read_large(text: &[u8], expected: &[i32], places: usize, list: &mut [i32]) {
     if places <= list.len() {
-        let reply = read::read_book(text, &mut list[..places]);
+        let reply = reading::read_book(text, &mut list[..places]);
         told_large(reply, list, expected);
     }
 }

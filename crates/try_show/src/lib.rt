@@ -1,5 +1,4 @@
 // What the trying programs print with. Each case is one line: its label, a colon, and what was answered.
-use book::line;
 use notes::Checked;
 use notes::Refusal;
 

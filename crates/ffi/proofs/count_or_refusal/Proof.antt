@@ -7,8 +7,9 @@ use Rattle.notes.specs.Reply.{readReply}
 use Rattle.notes.specs.declared.Read.{Read}
 use Rattle.ffi.specs.Bounds.{Counted}
 use Rattle.ffi.specs.Calls.{countOrRefusal}
-use Rattle.reading.proofs.Numbered.{number-to}
-use Rattle.ffi.proofs.Codes.{as64, minus-fits, minus-is}
+use Rattle.loading.proofs.Numbered.{number-to}
+use Rattle.lists.proofs.Reports.{as64}
+use Rattle.ffi.proofs.Codes.{minus-fits, minus-is}
 use borrow.Author.Needs.{needs}
 use Rattle.ffi.proofs.count_or_refusal.Statement.{statement}
 use Rattle.ffi.proofs.count_or_refusal.Tie as tie

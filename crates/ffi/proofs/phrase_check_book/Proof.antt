@@ -1,8 +1,8 @@
 -- Each answer of the check with its number.
 use mathlib.Core.Path.{sym, ap, _∙_}
 use lib.IntN.{pos}
-use Rattle.reading.specs.Loaded.{refusalOf}
-use Rattle.reading.proofs.Replies.{check-number}
+use Rattle.loading.specs.Loaded.{refusalOf}
+use Rattle.loading.proofs.Replies.{check-number}
 use Rattle.ffi.proofs.Codes.{code-back}
 use borrow.Author.Needs.{needs}
 use Rattle.ffi.proofs.phrase_check_book.Statement.{statement}
@@ -10,7 +10,7 @@ use Rattle.ffi.proofs.phrase_check_book.Tie as tie
 use Rattle.ffi.proofs.phrase_check_book.Reads as reads
 use Rattle.ffi.proofs.phrase_check_book.Lts as lts
 use Rattle.ffi.proofs.code_of.Reads as code-of-reads
-use Rattle.reading.proofs.check.check_book.Reads as check-book-reads
+use Rattle.loading.proofs.check.check_book.Reads as check-book-reads
 
 check-book-requires : tie.Need-check-book-requires
 check-book-requires c κs = search needs

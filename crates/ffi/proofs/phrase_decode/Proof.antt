@@ -13,16 +13,16 @@ use Rattle.text.specs.Walk.{filledWith}
 use Rattle.ffi.specs.Calls.{zeroOrRefusal, decodeReport}
 use Rattle.ffi.proofs.Codes.{code-back}
 use Rattle.ffi.proofs.Decoding.{decoded-numbers, countable}
-use Rattle.ffi.proofs.Reports.{nothing}
+use Rattle.lists.proofs.Reports.{nothing}
 use borrow.Author.Needs.{needs}
 use Rattle.ffi.proofs.phrase_decode.Statement.{statement}
 use Rattle.ffi.proofs.phrase_decode.Tie as tie
 use Rattle.ffi.proofs.phrase_decode.Reads as reads
 use Rattle.ffi.proofs.phrase_decode.Lts as lts
 use Rattle.ffi.proofs.code_of.Reads as code-of-reads
-use Rattle.ffi.proofs.report.put_answer.Reads as put-answer-reads
-use Rattle.ffi.proofs.steps.put_all.Reads as put-all-reads
-use Rattle.phrase.proofs.plain.decode_plain.Reads as decode-plain-reads
+use Rattle.lists.proofs.report.put_answer.Reads as put-answer-reads
+use Rattle.lists.proofs.steps.put_all.Reads as put-all-reads
+use Rattle.plain.proofs.decode_plain.Reads as decode-plain-reads
 
 decode-plain-requires : tie.Need-decode-plain-requires
 decode-plain-requires c κs = search needs

@@ -13,7 +13,7 @@ use Rattle.ffi.proofs.phrase_read_book.Tie as tie
 use Rattle.ffi.proofs.phrase_read_book.Reads as reads
 use Rattle.ffi.proofs.phrase_read_book.Lts as lts
 use Rattle.ffi.proofs.count_or_refusal.Reads as count-or-refusal-reads
-use Rattle.reading.proofs.read.read_book.Reads as read-book-reads
+use Rattle.reading.proofs.read_book.Reads as read-book-reads
 
 read-book-requires : tie.Need-read-book-requires
 read-book-requires c κs = search needs

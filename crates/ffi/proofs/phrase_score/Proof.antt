@@ -7,18 +7,19 @@ use lib.IntN.{ℤ}
 use Rattle.notes.specs.Reply.{Reply, scoredReply}
 use Rattle.text.specs.Walk.{filledWith}
 use Rattle.phrase.proofs.Front.{gathered-decide}
-use Rattle.ffi.specs.Calls.{zeroOrRefusal, recordsIn, scoreReport}
+use Rattle.lists.specs.Steps.{recordsIn}
+use Rattle.ffi.specs.Calls.{zeroOrRefusal, scoreReport}
 use Rattle.ffi.proofs.Codes.{code-back}
-use Rattle.ffi.proofs.Reports.{nothing}
+use Rattle.lists.proofs.Reports.{nothing}
 use borrow.Author.Needs.{needs}
 use Rattle.ffi.proofs.phrase_score.Statement.{statement}
 use Rattle.ffi.proofs.phrase_score.Tie as tie
 use Rattle.ffi.proofs.phrase_score.Reads as reads
 use Rattle.ffi.proofs.phrase_score.Lts as lts
 use Rattle.ffi.proofs.code_of.Reads as code-of-reads
-use Rattle.ffi.proofs.report.put_score.Reads as put-score-reads
-use Rattle.ffi.proofs.steps.gather.Reads as gather-reads
-use Rattle.prepare.proofs.score_plain.Reads as score-plain-reads
+use Rattle.lists.proofs.report.put_score.Reads as put-score-reads
+use Rattle.lists.proofs.steps.gather.Reads as gather-reads
+use Rattle.plain.proofs.score_plain.Reads as score-plain-reads
 
 gather-requires : tie.Need-gather-requires
 gather-requires c κs = search needs

@@ -44,7 +44,7 @@ use Rattle.notes.specs.declared.Step.{Step}
 use Rattle.notes.specs.declared.Decoded.{Decoded}
 use Rattle.notes.specs.Reply.{writtenOver, Decodes}
 use Rattle.records.specs.Plain.{stepsOf}
-use Rattle.decoder.specs.declared.Core.{Core as Answer}
+use Rattle.answer.specs.declared.Core.{Core as Answer}
 use Rattle.decoder.specs.Core.{CoreDecodes}
 use Rattle.records.proofs.Walk.{tyAt}
 use Rattle.notes.proofs.Step as T
@@ -52,16 +52,16 @@ use Rattle.notes.proofs.Decoded as R
 use Rattle.notes.proofs.Decoded.Laws as R′
 use Rattle.records.proofs.Plain as P
 use Rattle.records.proofs.Plain.Laws as P′
-use Rattle.decoder.proofs.Core as S
-use Rattle.decoder.proofs.Core.Laws as S′
+use Rattle.answer.proofs.Core as S
+use Rattle.answer.proofs.Core.Laws as S′
 use Rattle.records.proofs.put_all as p
 use Rattle.records.proofs.put_all.Symbol as p-def
 use Rattle.records.proofs.put_all.Symbol.{name as #records·put-all}
 use Rattle.records.proofs.put_all.Met as p-thm
-use Rattle.phrase.proofs.plain.decode_plain as g
-use Rattle.phrase.proofs.plain.decode_plain.Symbol as g-def
-use Rattle.phrase.proofs.plain.decode_plain.Symbol.{name as #decode·plain}
-use Rattle.phrase.proofs.plain.decode_plain.Met as g-thm
+use Rattle.plain.proofs.decode_plain as g
+use Rattle.plain.proofs.decode_plain.Symbol as g-def
+use Rattle.plain.proofs.decode_plain.Symbol.{name as #decode·plain}
+use Rattle.plain.proofs.decode_plain.Met as g-thm
 use Rattle.phrase.proofs.decode.Key.{name as #this}
 use Rattle.phrase.proofs.decode as f
 use Rattle.phrase.proofs.decode.Statement as stated
@@ -290,5 +290,5 @@ decode-spec 𝓤 H 𝓜 𝓖 𝓡 =
     entered 𝓤 H (tripleOf 𝓤 H (𝓖 .A) f.signature (f.spec 𝓤 H (𝓖 .A) (𝓜 .mem) (𝓡 .run)))
     (tables 𝓤 H 𝓜 𝓡 code.env .C) (tables 𝓤 H 𝓜 𝓡 code.env .Λ) #this code.function (code.unfolded 𝓤 H 𝓜 𝓡)
     (meets 𝓤 H (𝓖 .A) (givenOf 𝓤 H 𝓜 𝓖) (𝓜 .mem) (𝓡 .run) (tablesOf 𝓤 H 𝓜 (tables 𝓤 H 𝓜 𝓡 code.env))
-    (cited 𝓤 H (Core 𝓤 H (𝓖 .A) (𝓜 .mem) (𝓡 .run)) 𝓜 𝓡 code.env #decode·plain g-def.routine code.calls-phrase·plain·decode-plain (g-thm.met 𝓤 H 𝓜 𝓖 𝓡))
+    (cited 𝓤 H (Core 𝓤 H (𝓖 .A) (𝓜 .mem) (𝓡 .run)) 𝓜 𝓡 code.env #decode·plain g-def.routine code.calls-plain·decode-plain (g-thm.met 𝓤 H 𝓜 𝓖 𝓡))
     (cited 𝓤 H (PutAll 𝓤 H (𝓖 .A) (𝓜 .mem) (𝓡 .run)) 𝓜 𝓡 code.env #records·put-all p-def.routine code.calls-records·put-all (p-thm.met 𝓤 H 𝓜 𝓖 𝓡)))

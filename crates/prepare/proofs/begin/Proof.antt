@@ -2,8 +2,8 @@
 use borrow.Author.Needs.{needs}
 use mathlib.Core.Path.{ap, _∙_}
 use Rattle.notes.specs.Direction.{directionRefusal}
-use Rattle.reading.specs.Loaded.{refusalOf}
-use Rattle.reading.proofs.Replies.{reply-number}
+use Rattle.loading.specs.Loaded.{refusalOf}
+use Rattle.loading.proofs.Replies.{reply-number}
 use Rattle.prepare.proofs.Starting.{numbered}
 use Rattle.prepare.proofs.begin.Statement.{statement}
 use Rattle.prepare.proofs.begin.Tie as tie

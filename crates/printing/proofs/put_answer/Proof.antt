@@ -2,7 +2,7 @@
 use mathlib.Core.Path.{sym}
 use native.Mathlib.Omega.{arith}
 use mir.Facts.{toZ-ofZ}
-use Rattle.printing.proofs.Laws.{put-is, put-then}
+use Rattle.decimals.proofs.Laws.{put-is, put-then}
 use Rattle.printing.proofs.Lines.{answer-is, answer-long}
 use borrow.Author.Needs.{needs}
 use Rattle.printing.proofs.put_answer.Statement.{statement}

@@ -2,7 +2,7 @@
 use native.Mathlib.Omega.{arith}
 use mathlib.Core.Path.{sym}
 use mir.Facts.{toZ-ofZ}
-use Rattle.printing.proofs.Laws.{put-is, put-then}
+use Rattle.decimals.proofs.Laws.{put-is, put-then}
 use Rattle.printing.proofs.Lines.{line-4, line-4-long}
 use borrow.Author.Needs.{needs}
 use Rattle.printing.proofs.put_counts.Statement.{statement}

@@ -6,8 +6,8 @@ use native.Mathlib.Omega.{arith}
 use lib.IntN.{pos}
 use lib.ListN.{length, take}
 use Rattle.laws.specs.Lists.{concat}
-use Rattle.printing.specs.Put.{Put, field}
-use Rattle.printing.proofs.Laws.{each-start, each-room, each-more, each-end}
+use Rattle.decimals.specs.Put.{Put, field}
+use Rattle.decimals.proofs.Laws.{each-start, each-room, each-more, each-end}
 use Rattle.printing.proofs.put_fields.Statement.{statement}
 use Rattle.printing.proofs.put_fields.Tie as tie
 

@@ -1,6 +1,6 @@
 -- Three fields and the end of the line, one after the other.
 use native.Mathlib.Omega.{arith}
-use Rattle.printing.proofs.Laws.{put-then}
+use Rattle.decimals.proofs.Laws.{put-then}
 use Rattle.printing.proofs.Lines.{three-long}
 use borrow.Author.Needs.{needs}
 use Rattle.printing.proofs.put_last_three.Statement.{statement}

@@ -2,7 +2,7 @@
 use mathlib.Core.Path.{sym}
 use native.Mathlib.Omega.{arith}
 use lib.IntN.{pos}
-use Rattle.printing.proofs.Laws.{put-is, put-then}
+use Rattle.decimals.proofs.Laws.{put-is, put-then}
 use Rattle.printing.proofs.Lines.{line-1, line-1-long}
 use borrow.Author.Needs.{needs}
 use Rattle.printing.proofs.put_refusal.Statement.{statement}

@@ -1,7 +1,7 @@
 -- The letter, and then the three numbers.
 use native.Mathlib.Omega.{arith}
 use mathlib.Core.Path.{sym}
-use Rattle.printing.proofs.Laws.{put-is, put-then}
+use Rattle.decimals.proofs.Laws.{put-is, put-then}
 use Rattle.printing.proofs.Lines.{line-3, line-3-long}
 use borrow.Author.Needs.{needs}
 use Rattle.printing.proofs.put_step.Statement.{statement}

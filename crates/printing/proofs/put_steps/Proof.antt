@@ -7,8 +7,9 @@ use Rattle.laws.specs.Lists.{concat}
 use Rattle.notes.specs.Render.{printedStep}
 use Rattle.records.specs.Plain.{stepIn, stepsOf}
 use Rattle.records.proofs.Laws.{count-steps, step-at}
-use Rattle.printing.specs.Put.{Put, plainOf}
-use Rattle.printing.proofs.Laws.{each-start, each-room, each-more, each-end}
+use Rattle.printing.specs.Lines.{plainOf}
+use Rattle.decimals.specs.Put.{Put}
+use Rattle.decimals.proofs.Laws.{each-start, each-room, each-more, each-end}
 use Rattle.printing.proofs.put_steps.Statement.{statement}
 use Rattle.printing.proofs.put_steps.Tie as tie
 

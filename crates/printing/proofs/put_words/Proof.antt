@@ -1,7 +1,7 @@
 -- The letter, the fields of the words and the end make the line.
 use mathlib.Core.Path.{sym}
 use native.Mathlib.Omega.{arith}
-use Rattle.printing.proofs.Laws.{put-is, put-then}
+use Rattle.decimals.proofs.Laws.{put-is, put-then}
 use Rattle.printing.proofs.Lines.{line-of, line-of-long}
 use borrow.Author.Needs.{needs}
 use Rattle.printing.proofs.put_words.Statement.{statement}

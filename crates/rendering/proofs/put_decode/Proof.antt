@@ -3,7 +3,7 @@ use mathlib.Core.Path.{refl, sym, subst}
 use native.Mathlib.Omega.{arith}
 use Rattle.notes.specs.Book.{bookOf}
 use Rattle.notes.specs.Render.{PrintsReply}
-use Rattle.printing.proofs.Laws.{put-first, put-rest}
+use Rattle.decimals.proofs.Laws.{put-first, put-rest}
 use Rattle.rendering.specs.Parts.{decodeOff}
 use Rattle.rendering.proofs.Answered.{core-fits, core-prints}
 use borrow.Author.Needs.{needs}

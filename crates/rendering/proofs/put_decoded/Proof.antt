@@ -5,8 +5,8 @@ use native.Mathlib.Omega.{arith}
 use lib.ListN.{length}
 use Rattle.notes.specs.Render.{printedRefusal}
 use Rattle.notes.specs.declared.Decoded.{Decoded}
-use Rattle.printing.specs.Put.{Put}
-use Rattle.printing.proofs.Laws.{put-is}
+use Rattle.decimals.specs.Put.{Put}
+use Rattle.decimals.proofs.Laws.{put-is}
 use Rattle.rendering.specs.Parts.{FitsDecoded, printedDecoded}
 use Rattle.rendering.proofs.Short.{refusal-fits}
 use borrow.Author.Needs.{needs}

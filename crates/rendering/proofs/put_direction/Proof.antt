@@ -6,7 +6,7 @@ use lib.ListN.{length}
 use lib.Seq.{length-take-le}
 use Rattle.notes.specs.Direction.{readDirectionRefusal, directionOf}
 use Rattle.notes.specs.Render.{printedRefusal}
-use Rattle.printing.proofs.Laws.{put-first, put-rest}
+use Rattle.decimals.proofs.Laws.{put-first, put-rest}
 use Rattle.rendering.proofs.Inputs.{Filled, direction-filled, direction-refusal, direction-refused, direction-decoded}
 use Rattle.rendering.proofs.Short.{refusal-fits}
 use borrow.Author.Needs.{needs}

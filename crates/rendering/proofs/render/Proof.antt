@@ -10,7 +10,7 @@ use lib.Seq.{length-take-le}
 use Rattle.notes.specs.Book.{loadedOf, readRefusal}
 use Rattle.notes.specs.Render.{printedRefusal}
 use Rattle.notes.specs.declared.Refusal.the-variants.{ListTooShort}
-use Rattle.printing.proofs.Laws.{put-first, put-rest}
+use Rattle.decimals.proofs.Laws.{put-first, put-rest}
 use Rattle.rendering.proofs.Inputs.{Filled, book-filled, book-refusal, too-long, book-refused, book-read}
 use Rattle.rendering.proofs.Short.{refusal-fits}
 use borrow.Author.Needs.{needs}

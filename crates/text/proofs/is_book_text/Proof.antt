@@ -1,7 +1,7 @@
 -- `text::is_book_text` meets its contract: an empty text has no line, and of another the automaton's end is question 1 (Form).
 use mathlib.Core.Path.{_∙_}
 use borrow.Author.Needs.{needs}
-use Rattle.text.proofs.Form.{no-book, book-text}
+use Rattle.fields.proofs.Form.{no-book, book-text}
 use Rattle.text.proofs.is_book_text.Statement.{statement}
 use Rattle.text.proofs.is_book_text.Tie as tie
 

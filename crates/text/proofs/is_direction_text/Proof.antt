@@ -1,7 +1,7 @@
 -- `text::is_direction_text` meets its contract: the automaton's end is question 8 (Form).
 use mathlib.Core.Path.{_∙_}
 use borrow.Author.Needs.{needs}
-use Rattle.text.proofs.Form.{direction-text}
+use Rattle.fields.proofs.Form.{direction-text}
 use Rattle.text.proofs.is_direction_text.Statement.{statement}
 use Rattle.text.proofs.is_direction_text.Tie as tie
 

@@ -5,9 +5,9 @@ use mathlib.Core.Bool.{true}
 use native.Mathlib.Omega.{arith}
 use borrow.Author.Tests.{not-true, not-false}
 use lib.ListN.{length, drop}
-use Rattle.text.specs.Scan.{run, atLine}
-use Rattle.text.specs.Fields.{start}
-use Rattle.text.proofs.Fields.{field-ends, field-broken, walk-end}
+use Rattle.fields.specs.Scan.{run, atLine}
+use Rattle.fields.specs.Fields.{start}
+use Rattle.fields.proofs.Fields.{field-ends, field-broken, walk-end}
 use Rattle.text.proofs.is_formed.Statement.{statement}
 use Rattle.text.proofs.is_formed.Tie as tie
 

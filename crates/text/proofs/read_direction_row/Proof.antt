@@ -4,7 +4,7 @@ use mathlib.Core.List.{List}
 use lib.IntN.{ℤ}
 use lib.ListN.{length}
 use Rattle.text.specs.Walk.{filledWith}
-use Rattle.text.proofs.Form.{direction-text}
+use Rattle.fields.proofs.Form.{direction-text}
 use Rattle.text.proofs.Numbers.{direction-numbers}
 use borrow.Author.Needs.{needs}
 use Rattle.text.proofs.read_direction_row.Statement.{statement}

@@ -7,7 +7,7 @@ use borrow.Author.Tests.{not-true, not-false}
 use lib.ListN.{length, set}
 use mir.Syntax.{w32}
 use mir.Val.{toZ, ofZ}
-use Rattle.text.proofs.Fields.{field-broken}
+use Rattle.fields.proofs.Fields.{field-broken}
 use Rattle.text.proofs.InRow.{InRow, row-start, row-kept, row-more, row-last, row-bad, row-cut}
 use borrow.Author.Needs.{needs}
 use Rattle.text.proofs.read_row.Statement.{statement}

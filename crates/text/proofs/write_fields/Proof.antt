@@ -7,9 +7,9 @@ use lib.ListN.{length, drop, set}
 use mir.Syntax.{w32}
 use mir.Val.{toZ, ofZ}
 use borrow.Author.Needs.{needs}
-use Rattle.text.specs.Scan.{run, atLine, emit}
-use Rattle.text.specs.Fields.{start}
-use Rattle.text.proofs.Fields.{field-good, field-ends, emit-end}
+use Rattle.fields.specs.Scan.{run, atLine, emit}
+use Rattle.fields.specs.Fields.{start}
+use Rattle.fields.proofs.Fields.{field-good, field-ends, emit-end}
 use Rattle.text.proofs.Row.{Writing, write-start, write-put, write-count, write-end, filled-length}
 use Rattle.text.proofs.write_fields.Statement.{statement}
 use Rattle.text.proofs.write_fields.Tie as tie

@@ -5,7 +5,7 @@ use lib.IntN.{ℤ}
 use lib.ListN.{length}
 use Rattle.notes.specs.Book.{loadedOf}
 use Rattle.text.specs.Walk.{filledWith}
-use Rattle.text.proofs.Form.{book-run}
+use Rattle.fields.proofs.Form.{book-run}
 use Rattle.text.proofs.Numbers.{book-numbers}
 use Rattle.text.proofs.Row.{filled-room}
 use borrow.Author.Needs.{needs}

@@ -11,11 +11,11 @@ use Rattle.decoder.proofs.decode.conclude.Statement.{statement}
 use Rattle.decoder.proofs.decode.conclude.Tie as tie
 use Rattle.decoder.proofs.decode.conclude.Reads as reads
 use Rattle.decoder.proofs.decode.conclude.Lts as lts
-use Rattle.decoder.proofs.answer.trace.Reads as trace-reads
+use Rattle.answer.proofs.trace.Reads as trace-reads
 use Rattle.decoder.proofs.decode.no_answer.Reads as no-answer-reads
 use Rattle.decoder.proofs.decode.refused.Reads as refused-reads
-use Rattle.store.proofs.clearing.clear_used.Reads as clear-used-reads
-use Rattle.store.proofs.reading.pick_best.Reads as pick-best-reads
+use Rattle.clearing.proofs.clear_used.Reads as clear-used-reads
+use Rattle.states.proofs.reading.pick_best.Reads as pick-best-reads
 
 -- src/decode.rt:61:11
 pick-best-requires : tie.Need-pick-best-requires

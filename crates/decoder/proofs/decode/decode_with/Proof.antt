@@ -24,7 +24,7 @@ use Rattle.decoder.proofs.decode.decode_with.Lts as lts
 use Rattle.decoder.proofs.decode.has_room.Reads as has-room-reads
 use Rattle.decoder.proofs.decode.refused.Reads as refused-reads
 use Rattle.decoder.proofs.decode.search_for_best.Reads as search-for-best-reads
-use Rattle.derivation.proofs.options.list_options.Reads as list-options-reads
+use Rattle.options.proofs.list_options.Reads as list-options-reads
 
 wide : (c : tie.Else1) → leZ (negsuc 0) (c .before .before .before .before .before .before .before .before .before .before .args .job .width) ≡ true
 wide c =

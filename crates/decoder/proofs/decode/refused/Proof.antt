@@ -3,7 +3,7 @@ use borrow.Author.Needs.{needs}
 use mathlib.Core.Path.{_≡_, ap}
 use Rattle.notes.specs.declared.Decoded.the-variants.{Refused}
 use Rattle.records.specs.declared.Plain.{Plain}
-use Rattle.decoder.specs.declared.Core.{Core}
+use Rattle.answer.specs.declared.Core.{Core}
 use borrow.Author.Needs.{needs}
 use Rattle.decoder.proofs.decode.refused.Statement.{statement}
 use Rattle.decoder.proofs.decode.refused.Tie as tie

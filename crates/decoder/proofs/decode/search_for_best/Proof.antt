@@ -14,8 +14,8 @@ use Rattle.decoder.proofs.decode.search_for_best.Reads as reads
 use Rattle.decoder.proofs.decode.search_for_best.Lts as lts
 use Rattle.decoder.proofs.decode.conclude.Reads as conclude-reads
 use Rattle.decoder.proofs.decode.refused.Reads as refused-reads
-use Rattle.decoder.proofs.levels.search.Reads as search-reads
-use Rattle.store.proofs.clearing.clear.Reads as clear-reads
+use Rattle.sets.proofs.search.Reads as search-reads
+use Rattle.clearing.proofs.clear.Reads as clear-reads
 
 -- src/decode.rt:105:5
 clear-requires : tie.Need-clear-requires

@@ -1,0 +1,207 @@
+-- The answer's steps and words.
+use Prim.Native.Nat.{ℕ, zero, suc, _+_, _-_, _*_, _≤_, _<_}
+use native.Mathlib.Omega.{arith}
+use native.Mathlib.Decide.{ℕ-discrete}
+use mathlib.Core.Path.{_≡_, refl, sym, _∙_, ap, subst}
+use mathlib.Core.Bool.{Bool, false}
+use mathlib.Core.List.{List, [], _∷_, _++_, map, map-append, append-nil}
+use borrow.Author.Tests.{lt-leb}
+use lib.Dec.{leb}
+use lib.IntN.{ℤ}
+use lib.ListN.{length, getD, take, drop, set, length-append, drop-of-length-le, List·getD-append, List·getD-map}
+use lib.Seq.{getD-take, getD-append-seam}
+use native.Mathlib.Numerals.{add-one}
+use Rattle.laws.proofs.Fill.{Filled, fill-put, fill-count, fill-end, over-more}
+use Rattle.laws.specs.Lists.{concat}
+use Rattle.laws.proofs.Lists.{drop-next, take-next, concat-++, getD-mem}
+use Rattle.notes.specs.Book.{Book, bookOf}
+use Rattle.notes.specs.Derivation.{noStep, entryAt, targetWords}
+use Rattle.notes.specs.Direction.{wordCount}
+use Rattle.notes.specs.Reply.{writtenOver}
+use Rattle.notes.specs.Search.{stepAt, fittingSteps}
+use Rattle.notes.specs.State.{Hyp}
+use Rattle.notes.specs.declared.Step.{Step}
+use Rattle.notes.proofs.Steps.{fits-facts, listed-fits}
+use Rattle.records.specs.Plain.{stepIn, stepsTo, stepsOf, unlessFull, withStep, Added}
+use Rattle.records.specs.declared.Plain.{Plain}
+use Rattle.records.proofs.Laws.{count-steps}
+use Rattle.derivation.specs.Model.{WordsAt, wordIn, PhraseOf}
+use Rattle.derivation.specs.declared.Phrase.{Phrase}
+use Rattle.derivation.specs.declared.Task.{Task}
+use Rattle.states.specs.Back.{Leads, Way}
+use Rattle.states.specs.Ghost.{optionAt}
+use Rattle.states.specs.Shows.{nobody}
+use Rattle.notes.specs.declared.Decoded.the-variants.{Done}
+use Rattle.store.specs.Store.{placeAt}
+use Rattle.answer.specs.Told.{Ends, Told}
+use Rattle.extending.specs.Extend.{Choices}
+use Rattle.derivation.proofs.Says.{word-is}
+
+-- ════ the position of an option
+
+-- a position that begins no later than the option does not lie behind all options
+pub below-end : (starts : List ℕ) (i n o : ℕ) → getD starts i 0 ≤ o → o < getD starts n 0 → i ≤ n → i < n
+below-end starts i n o a b h = by (ℕ-discrete i n)
+  where
+    by : Dec (i ≡ n) → i < n
+    by (yes e) = let c : o < getD starts i 0 = rw e b in absurd (omega arith)
+    by (no q) = omega arith
+
+module _ {loaded : List ℤ} {direction entries options starts : List ℕ} {t : Task} (C : Choices loaded direction entries options starts t)
+    {o : ℕ} (ho : o < length (fittingSteps (bookOf loaded) direction)) where
+  pub option-to : o < getD starts (t .n) 0
+  option-to = let e = C .options-of .ends in let n = C .n-is in rw n (omega arith)
+
+  pub option-from : getD starts 0 0 ≤ o
+  option-from = let e = C .options-of .begins in omega arith
+
+  pub option-room : o < length options
+  option-room = let e = C .options-of .ends in let r = C .options-of .room in omega arith
+
+  pub option-entry : (1 ≤ getD options o 0) × (getD options o 0 ≤ t .phrases)
+  option-entry =
+      let e = C .options-of .ends in
+      let b = C .options-of .entries-in o (omega arith) in
+      let m = C .phrases-are in
+      (b .0, (let h = b .1 in omega arith))
+
+  module _ {i : ℕ} (h : i < t .n) (a : getD starts i 0 ≤ o) (b : o < getD starts (i + 1) 0) {p : Phrase} (of : PhraseOf loaded (entryAt (bookOf loaded) (getD options o 0)) p) where
+    is-step : optionAt (bookOf loaded) direction o ≡ stepAt (bookOf loaded) (i + 1) (getD options o 0)
+    is-step = let n = C .n-is in C .options-of .each i o (omega arith) a b
+
+    pub option-step : record { first = i + 1; last = i + 1 + p .long - 1; entry = getD options o 0 } ≡ optionAt (bookOf loaded) direction o
+    option-step = let m = of .source-at .many-are in rw (m) (sym is-step)
+
+-- ════ the words of one entry
+
+module _ {loaded : List ℤ} {from many : ℕ} {row : List ℕ} (w : WordsAt loaded from many row) (old : List ℕ) (room : many ≤ length old) where
+  -- one word more
+  pub copy-more : {out : List ℕ} {j : ℕ} → j < many → Filled old out j (drop j row) row → Filled old (set out j (wordIn loaded (from + j))) (j + 1) (drop (j + 1) row) row
+  copy-more {out} {j} h f =
+      let m = w .many-are in
+      let e : wordIn loaded (from + j) ≡ getD row j 0 = word-is w j h in
+      let d : drop j row ≡ getD row j 0 ∷ drop (j + 1) row = drop-next row j 0 (omega arith) in
+      subst (λ (v : ℕ). Filled old (set out j v) (j + 1) (drop (j + 1) row) row) (sym e) (fill-put (omega arith) (subst (λ (rest : List ℕ). Filled old out j rest row) d f))
+
+  pub copy-ends : {out : List ℕ} {j : ℕ} → many ≤ j → Filled old out j (drop j row) row → out ≡ writtenOver row old
+  copy-ends {out} {j} h f =
+      let m = w .many-are in
+      let e : drop j row ≡ [] = drop-of-length-le row {i = j} (omega arith) in
+      let g : Filled old out j [] row = subst (λ (rest : List ℕ). Filled old out j rest row) e f in
+      fill-end g ∙ ap (λ (k : ℕ). row ++ drop k old) (fill-count g)
+
+-- ════ the steps of a row of options
+
+pub steps-more : (f : ℕ → Step) (way : List ℕ) {p r : Plain} {step : Step} {k : ℕ} → k < length way → k < 33 → p .count ≡ k → stepsOf p ≡ map f (take k way)
+    → step ≡ f (getD way k 0) → Added p step r → (r .count ≡ k + 1) × (stepsOf r ≡ map f (take (k + 1) way))
+steps-more f way {p} {r} {step} {k} h few e s z a =
+    let full : leb 33 (p .count) ≡ false = lt-leb 33 (p .count) (omega arith) in
+    let c : withStep p step .count ≡ p .count + 1 = ap (λ (b : Bool). unlessFull b p step .count) full in (
+      ap (λ (q : Plain). q .count) (a .is) ∙ c ∙ ap (λ (m : ℕ). m + 1) e,
+      a .steps (omega arith) ∙ ap (λ (ss : List Step). ss ++ (step ∷ [])) s ∙ ap (λ (x : Step). map f (take k way) ++ (x ∷ [])) z
+          ∙ sym (map-append f (take k way) (getD way k 0 ∷ [])) ∙ ap (map f) (sym (take-next way k 0 h)),
+    )
+
+-- ════ the words of one step after another
+
+pub words-more : (book : Book) (steps : List Step) (step : Step) → targetWords book (steps ++ (step ∷ [])) ≡ targetWords book steps ++ entryAt book (step .entry) .target
+unfolding targetWords
+words-more book steps step =
+    ap concat (map-append (λ (s : Step). entryAt book (s .entry) .target) steps (step ∷ []))
+    ∙ concat-++ (map (λ (s : Step). entryAt book (s .entry) .target) steps) (entryAt book (step .entry) .target ∷ [])
+    ∙ ap (λ (ws : List ℕ). targetWords book steps ++ ws) (append-nil (entryAt book (step .entry) .target))
+
+-- ---- one step's words more
+
+module _ (book : Book) (plain : Plain) (k : ℕ) (old : List ℕ) where
+  abbrev said : List ℕ
+  said = targetWords book (stepsTo plain k)
+
+  abbrev row : List ℕ
+  row = entryAt book (stepIn plain k .entry) .target
+
+  next-words : targetWords book (stepsTo plain (k + 1)) ≡ said ++ row
+  next-words = rw add-one (words-more book (stepsTo plain k) (stepIn plain k))
+
+  pub write-count : {count many : ℕ} → count ≡ length said → many ≡ length row → count + many ≡ length (targetWords book (stepsTo plain (k + 1)))
+  write-count c m = let a = length-append said row in let e : length (targetWords book (stepsTo plain (k + 1))) ≡ length (said ++ row) = ap length next-words in omega arith
+
+  pub write-more : {words part : List ℕ} {count : ℕ} → words ≡ writtenOver said old → count ≡ length said → part ≡ writtenOver row (take (length words - count) (drop count words))
+      → take count words ++ (part ++ drop (length words - count) (drop count words)) ≡ writtenOver (targetWords book (stepsTo plain (k + 1))) old
+  write-more w c e = over-more said row old w c e ∙ ap (λ (ws : List ℕ). writtenOver ws old) (sym next-words)
+
+-- ════ the steps that the store's options stand for
+
+step-at : (p : Plain) (m i : ℕ) (d : Step) → i < m → getD (stepsTo p m) i d ≡ stepIn p i
+step-at p zero i d h = absurd (omega arith)
+step-at p (suc m) i d h = by (ℕ-discrete i m) (λ g. step-at p m i d g)
+  where
+    by : Dec (i ≡ m) → (i < m → getD (stepsTo p m) i d ≡ stepIn p i) → getD (stepsTo p (suc m)) i d ≡ stepIn p i
+    by (yes e) before =
+        let l = count-steps p m in
+        let z : length (stepsTo p m) ≡ i = omega arith in
+        ap (λ (j : ℕ). getD (stepsTo p m ++ (stepIn p m ∷ [])) j d) (sym z) ∙ getD-append-seam (stepsTo p m) (stepIn p m) [] d ∙ ap (stepIn p) (sym e)
+    by (no q) before = let l = count-steps p m in List·getD-append (stepsTo p m) (stepIn p m ∷ []) d i (omega arith) ∙ before (omega arith)
+
+way-is : (f : ℕ → Step) (out : List ℕ) (steps : List Step) → length steps ≤ length out → ((i : ℕ) → i < length steps → f (getD out i 0) ≡ getD steps i noStep)
+    → map f (take (length steps) out) ≡ steps
+way-is f [] [] h g = refl
+way-is f (o ∷ out) [] h g = refl
+way-is f [] (s ∷ steps) h g = absurd (omega arith)
+way-is f (o ∷ out) (s ∷ steps) h g =
+    ap (λ (x : Step). x ∷ map f (take (length steps) out)) (g 0 (omega arith)) ∙ ap (λ (xs : List Step). s ∷ xs) (way-is f out steps (omega arith) (λ i l. g (suc i) (omega arith)))
+
+-- the state is that of the place, and at most 32 steps lead to it
+module _ {book : Book} {direction : List ℕ} {st : List ℤ} {k : ℕ} {q : Hyp} (E : Ends book direction st k q) where
+  steps-same : getD (E .list) k nobody .steps ≡ q .steps
+  steps-same = ap (λ (x : Hyp). x .steps) (E .is)
+
+  pub ends-lead : wordCount direction ≤ 32 → Leads st k 32
+  ends-lead few =
+      let s = E .short in
+      let e : length (getD (E .list) k nobody .steps) ≡ length (q .steps) = ap length steps-same in
+      record { step = optionAt book direction; options = length (fittingSteps book direction); list = E .list; chains = E .chains; inside = E .inside; short = omega arith }
+
+  pub ends-room : 8 * k + 8 ≤ length st
+  ends-room = let r = E .chains .room in let h = E .inside in omega arith
+
+  module _ {out : List ℕ} {d : ℕ} (W : Way (optionAt book direction) (length (fittingSteps book direction)) (getD (E .list) k nobody .steps) out d) where
+    pub way-long : d ≡ length (q .steps)
+    way-long = W .long ∙ ap length steps-same
+
+    pub way-steps : d ≤ length out → map (optionAt book direction) (take d out) ≡ q .steps
+    way-steps h =
+        let l = W .long in
+        ap (λ (m : ℕ). map (optionAt book direction) (take m out)) (W .long)
+        ∙ way-is (optionAt book direction) out (getD (E .list) k nobody .steps) (omega arith) (λ i g. W .step-is i (omega arith)) ∙ steps-same
+
+-- each of the steps has an entry of the book
+module _ {loaded : List ℤ} {direction entries options starts : List ℕ} {t : Task} (C : Choices loaded direction entries options starts t) where
+  pub step-entry : (plain : Plain) (out : List ℕ) (d : ℕ) → (plain .count ≡ d) × (stepsOf plain ≡ map (optionAt (bookOf loaded) direction) (take d out))
+      → ((i : ℕ) → i < d → getD out i 0 < length (fittingSteps (bookOf loaded) direction))
+      → (i : ℕ) → i < plain .count → (1 ≤ stepIn plain i .entry) × (stepIn plain i .entry ≤ t .phrases)
+  step-entry plain out d (c, s) inside i h =
+      let f = optionAt (bookOf loaded) direction in
+      let e : f (getD out i 0) ≡ stepIn plain i =
+      sym (sym (step-at plain (plain .count) i (f 0) h) ∙ ap (λ (xs : List Step). getD xs i (f 0)) s ∙ List·getD-map f (take d out) i 0 ∙ ap f (getD-take d out i 0 (omega arith))) in
+      let g = fits-facts (bookOf loaded) direction (f (getD out i 0)) (listed-fits (bookOf loaded) direction (f (getD out i 0)) (getD-mem (fittingSteps (bookOf loaded) direction) (getD out i 0) noStep (inside i (omega arith)))) in
+      let m = C .phrases-are in
+      (subst (λ (x : Step). 1 ≤ x .entry) e (g .entry-from), (let z : stepIn plain i .entry ≤ length (bookOf loaded .entries) = subst (λ (x : Step). x .entry ≤ length (bookOf loaded .entries)) e (g .entry-to) in omega arith))
+
+-- what is read off the store and written down is what the state says
+pub told : {book : Book} {direction : List ℕ} {st : List ℤ} {k : ℕ} {q : Hyp} (E : Ends book direction st k q) {words₀ words₁ : List ℕ} (plain : Plain) {out : List ℕ} {d many states : ℕ} {score : ℤ}
+    → Way (optionAt book direction) (length (fittingSteps book direction)) (getD (E .list) k nobody .steps) out d → d ≤ length out
+    → (plain .count ≡ d) × (stepsOf plain ≡ map (optionAt book direction) (take d out))
+    → (many ≡ length (targetWords book (stepsOf plain))) × (words₁ ≡ writtenOver (targetWords book (stepsOf plain)) words₀)
+    → score ≡ placeAt st k .state .score
+    → Told book q states words₀ words₁ (record { plain = plain; reply = Done (record { score = score; steps = d; words = many; states = states }) })
+told {book} {q} E {words₀} plain {d} {many} {states} {score} W h (c, s) (m, w) z =
+    let ss : stepsOf plain ≡ q .steps = s ∙ way-steps E W h in
+    record {
+      steps-are = ss;
+      count-is = c ∙ way-long E W;
+      words-after = w ∙ ap (λ (xs : List Step). writtenOver (targetWords book xs) words₀) ss;
+      reply-is = ap (λ (x : ℤ). Done (record { score = x; steps = d; words = many; states = states })) (z ∙ E .shown .score-is)
+          ∙ ap (λ (x : ℕ). Done (record { score = q .score; steps = x; words = many; states = states })) (way-long E W)
+          ∙ ap (λ (x : ℕ). Done (record { score = q .score; steps = length (q .steps); words = x; states = states })) (m ∙ ap (λ (xs : List Step). length (targetWords book xs)) ss);
+    }

@@ -1,0 +1,167 @@
+// The answer: the best state's steps as plain numbers, and their target words.
+use derivation::Phrase;
+use derivation::Task;
+use notes::Answer;
+use notes::Decoded;
+use notes::Step;
+use records::Plain;
+ghost use mathlib.Core.Path.{_≡_};
+ghost use mathlib.Core.List.{map};
+ghost use Prim.Native.Nat.{ℕ, _+_, _*_, _≤_, _<_};
+ghost use lib.ListN.{length, getD, take};
+ghost use Rattle.notes.specs.Book.{Entry, bookOf};
+ghost use Rattle.notes.specs.Reply.{writtenOver};
+ghost use Rattle.notes.specs.Search.{fittingSteps};
+ghost use Rattle.derivation.specs.Model.{PhraseOf, Phrased};
+ghost use Rattle.notes.specs.Derivation.{targetWords};
+ghost use Rattle.book.specs.Entries.{EntriesAt};
+ghost use Rattle.records.specs.Plain.{stepIn, stepsOf};
+ghost use Rattle.states.specs.Ghost.{optionAt};
+ghost use Rattle.notes.specs.Direction.{wordCount};
+ghost use Rattle.notes.specs.State.{Hyp};
+ghost use Rattle.answer.specs.Told.{Ends, Ended, Told};
+ghost use Rattle.extending.specs.Extend.{Choices};
+
+// What a decode answers on plain numbers: the steps to write, none on a refusal, and the reply.
+pub struct Core {
+    pub plain: Plain,
+    pub reply: Decoded,
+}
+
+// The position, counted from 0, at which the option o stands: each position's options begin where those before it end.
+fn position_of(starts: &[usize], n: usize, o: usize) -> usize
+    requires { ⌜ (n < length (now starts)) × ((getD (now starts) 0 0 ≤ o) × (o < getD (now starts) n 0)) ⌝ }
+    ensures { λ r. ⌜ (r < n) × ((getD (now (starts .entry)) r 0 ≤ o) × (o < getD (now (starts .entry)) (r + 1) 0)) ⌝ }
+{
+    let mut i = 0;
+    while starts[i + 1] <= o {
+        i += 1;
+    }
+    i
+}
+
+// The step that the option o is. (`direction` is for the contract.)
+fn step_of(
+    book: &[i32],
+    direction: &[u16],
+    entries: &[usize],
+    options: &[u16],
+    starts: &[usize],
+    t: Task,
+    o: usize,
+) -> Step
+    requires { ⌜ Choices (now book) (now direction) (now entries) (now options) (now starts) t ⌝ }
+    requires { ⌜ o < length (fittingSteps (bookOf (now book)) (now direction)) ⌝ }
+    ensures { λ r. ⌜ r ≡ optionAt (bookOf (now (book .entry))) (now (direction .entry)) o ⌝ }
+{
+    let first = position_of(starts, t.n, o) + 1;
+    let entry = options[o];
+    let p = derivation::places::phrase_at(book, entries, t.phrases, entry as usize);
+    Step {
+        first: first as u16,
+        last: (first + p.long - 1) as u16,
+        entry,
+    }
+}
+
+// The entry's target words at the beginning of a list.
+fn copy_words(book: &[i32], p: Phrase, words: &mut [u16])
+    requires { ⌜ Phrased (now book) p ⌝ }
+    requires { ⌜ p .count ≤ length (now words) ⌝ }
+    ensures { λ _. ⌜ ((e : Entry) → PhraseOf (now (book .entry)) e p → now (words .exit) ≡ writtenOver (e .target) (now (words .entry))) ⌝ }
+{
+    let mut j = 0;
+    while j < p.count {
+        words[j] = derivation::model::word_at(book, p.target + j);
+        j += 1;
+    }
+}
+
+// The steps that the first d options of a row are, as plain numbers.
+fn steps_of(
+    book: &[i32],
+    direction: &[u16],
+    entries: &[usize],
+    options: &[u16],
+    starts: &[usize],
+    t: Task,
+    way: &[usize],
+    d: usize,
+) -> Plain
+    requires { ⌜ Choices (now book) (now direction) (now entries) (now options) (now starts) t ⌝ }
+    requires { ⌜ (d ≤ 32) × (d ≤ length (now way)) ⌝ }
+    requires { ⌜ ((k : ℕ) → k < d → getD (now way) k 0 < length (fittingSteps (bookOf (now book)) (now direction))) ⌝ }
+    ensures { λ r. ⌜ (r .count ≡ d) × (stepsOf r ≡ map (optionAt (bookOf (now (book .entry))) (now (direction .entry))) (take d (now (way .entry)))) ⌝ }
+{
+    let mut plain = records::empty();
+    let mut k = 0;
+    while k < d {
+        plain = records::with_step(
+            plain,
+            step_of(book, direction, entries, options, starts, t, way[k]),
+        );
+        k += 1;
+    }
+    plain
+}
+
+// Each step's target words follow those of the step before; how many there are.
+// Document 01's form: the rest of the word list, from the current count, is lent on to the copier of one entry's words.
+fn write_words(
+    book: &[i32],
+    entries: &[usize],
+    phrases: usize,
+    plain: Plain,
+    words: &mut [u16],
+) -> usize
+    requires { ⌜ EntriesAt (now book) (now entries) phrases × (phrases ≤ length (now entries)) ⌝ }
+    requires { ⌜ (plain .count ≤ 32) × (8 * plain .count ≤ length (now words)) ⌝ }
+    requires { ⌜ ((k : ℕ) → k < plain .count → (1 ≤ stepIn plain k .entry) × (stepIn plain k .entry ≤ phrases)) ⌝ }
+    ensures { λ r. ⌜ r ≡ length (targetWords (bookOf (now (book .entry))) (stepsOf plain)) ⌝ }
+    ensures { λ r. ⌜ now (words .exit) ≡ writtenOver (targetWords (bookOf (now (book .entry))) (stepsOf plain)) (now (words .entry)) ⌝ }
+{
+    let mut count = 0;
+    let mut k = 0;
+    while k < plain.count {
+        let step = records::step_in(plain, k);
+        let p = derivation::places::phrase_at(book, entries, phrases, step.entry as usize);
+        copy_words(book, p, &mut words[count..]);
+        count += p.count;
+        k += 1;
+    }
+    count
+}
+
+// The answer from the place k of the store, which holds the best state: its steps, their words and its score.
+pub fn trace(
+    store: &[i64],
+    k: usize,
+    states: usize,
+    book: &[i32],
+    direction: &[u16],
+    entries: &[usize],
+    options: &[u16],
+    starts: &[usize],
+    t: Task,
+    words: &mut [u16],
+) -> Core
+    requires { ⌜ Choices (now book) (now direction) (now entries) (now options) (now starts) t ⌝ }
+    requires { ⌜ Ended (bookOf (now book)) (now direction) (now store) k ⌝ }
+    requires { ⌜ 8 * wordCount (now direction) ≤ length (now words) ⌝ }
+    ensures { λ r. ⌜ ((q : Hyp) → Ends (bookOf (now (book .entry))) (now (direction .entry)) (now (store .entry)) k q → Told (bookOf (now (book .entry))) q states (now (words .entry)) (now (words .exit)) r) ⌝ }
+{
+    let mut way = [0usize; 32];
+    let d = states::paths::path(store, k, &mut way);
+    let plain = steps_of(book, direction, entries, options, starts, t, &way, d);
+    let many = write_words(book, entries, t.phrases, plain, words);
+    let x = store::places::place_at(store, k);
+    Core {
+        plain,
+        reply: Decoded::Done(Answer {
+            score: x.state.score,
+            steps: d,
+            words: many,
+            states,
+        }),
+    }
+}

@@ -1,0 +1,120 @@
+-- Questions 3 to 6 by the survey: what an answer of `fourOf` and of the comparison of the triples says of all lines.
+use Prim.Native.Nat.{ℕ, _+_, _≤_}
+use native.Mathlib.Omega.{arith}
+use mathlib.Core.Path.{_≡_, refl, sym, _∙_, ap}
+use mathlib.Core.Bool.{Bool, true, false, _&&_}
+use mathlib.Core.List.{List, map}
+use borrow.Author.Tests.{leb-true}
+use lib.Dec.{eqb, leb}
+use lib.IntN.{ℤ}
+use lib.ListN.{length, length-map}
+use Rattle.laws.specs.Lists.{all, keep, count, noneTwice}
+use Rattle.laws.proofs.Lists.{keep-length}
+use Rattle.laws.proofs.Tests.{both}
+use Rattle.notes.specs.Questions.{_unless_, _orelse_, number}
+use Rattle.notes.specs.Book.{isP, isT, isWhole, isOneBFirst, isInRange, isNoTripleTwice, linesRefusal, entryOf, tripleOf, bookOfLines, loadedLines}
+use Rattle.notes.specs.declared.Refusal.{Refusal}
+use Rattle.notes.proofs.Chains.{rest-passes, test-passes}
+use Rattle.triples.specs.Grams.{triplesIn, sameTriple, Indexed}
+use Rattle.triples.proofs.Lines.{Copied, triples-are, answers-6}
+use Rattle.book.specs.declared.survey.Survey.{Survey}
+use Rattle.book.specs.declared.loaded.Surveyed.{Surveyed}
+use Rattle.book.specs.declared.loaded.Surveyed.the-variants.{Whole, Broken}
+use Rattle.book.specs.Survey.{fourOf}
+use Rattle.book.specs.Loaded.{SurveyOf}
+use Rattle.book.proofs.Counts.{survey-ps, survey-ts, survey-refusal}
+use Rattle.book.proofs.Triples.{grams-long, grams-hold}
+use Rattle.loading.specs.Loaded.{WholeAs, SurveyIs, Ready}
+use Rattle.loading.proofs.Numbered.{number-from, refused-first}
+
+-- ════ questions 3 to 5
+
+-- it is one of three refusals, or none
+pub four-none : (s : Survey) (k : ℕ) → k ≡ fourOf s → (k ≡ 3 → ⊥) → (k ≡ 4 → ⊥) → (k ≡ 5 → ⊥) → 0 ≡ fourOf s
+unfolding fourOf
+four-none s k e three four five = by (s .headed && eqb (s .bs) 1) (s .ranged) (leb (s .ps) 4_096 && leb (s .ts) 8_192) e
+  where
+    by : (a b c : Bool) → k ≡ (3 unless a orelse 4 unless b orelse 5 unless c) → 0 ≡ (3 unless a orelse 4 unless b orelse 5 unless c)
+    by true true true q = refl
+    by true true false q = absurd (five q)
+    by true false c q = absurd (four q)
+    by false b c q = absurd (three q)
+
+-- no more T lines than there is room for
+pub four-few : (s : Survey) → fourOf s ≡ 0 → s .ts ≤ 8_192
+unfolding fourOf
+four-few s e =
+    let after3 = rest-passes (3 unless (s .headed && eqb (s .bs) 1)) _ e in
+    let after4 = rest-passes (4 unless s .ranged) _ after3 in
+    let short = test-passes 4 (leb (s .ps) 4_096 && leb (s .ts) 8_192) after4 in
+    leb-true (s .ts) 8_192 (both (leb (s .ps) 4_096) (leb (s .ts) 8_192) short .1)
+
+-- a refusal by a later question, or none, has passed question 4
+later : (a b c : Bool) (m j : ℕ) → (2 unless a orelse 3 unless b orelse 4 unless c orelse m) ≡ j → (j ≡ 2 → ⊥) → (j ≡ 3 → ⊥) → (j ≡ 4 → ⊥) → c ≡ true
+later true true true m j e two three four = refl
+later true true false m j e two three four = absurd (four (sym e))
+later true false c m j e two three four = absurd (three (sym e))
+later false b c m j e two three four = absurd (two (sym e))
+
+-- ════ question 6
+
+module _ {lines : List (List ℤ)} {grams₀ grams : List ℤ} {s : Survey} (w : WholeAs lines grams₀ grams s) (room : 32_768 ≤ length grams) (four : fourOf s ≡ 0) where
+  refusal-6 : linesRefusal lines ≡ 6 unless isNoTripleTwice lines
+  refusal-6 = survey-refusal lines (w .whole) ∙ ap (λ (k : ℕ). k orelse 6 unless isNoTripleTwice lines) (ap fourOf (sym (w .surveyed)) ∙ four)
+
+  counted : s .ts ≡ count isT lines
+  counted = ap (λ (x : Survey). x .ts) (w .surveyed) ∙ survey-ts lines
+
+  ranged : all isInRange lines ≡ true
+  unfolding linesRefusal
+  ranged = by (isNoTripleTwice lines) refusal-6
+    where
+      by : (b : Bool) → linesRefusal lines ≡ 6 unless b → all isInRange lines ≡ true
+      by true e = later (all isWhole lines) (isOneBFirst lines) (all isInRange lines) _ 0 e (omega arith) (omega arith) (omega arith)
+      by false e = later (all isWhole lines) (isOneBFirst lines) (all isInRange lines) _ 6 e (omega arith) (omega arith) (omega arith)
+
+  -- the records are the numbers of the T lines
+  copied : Copied grams (keep isT lines)
+  copied = record {
+    at = λ k f h l.
+        let n : length (keep isT lines) ≡ count isT lines = keep-length isT lines in
+        let c : f + 1 ≡ 1 + f = omega arith in
+        let z = counted in
+        let few = four-few s four in
+        rw (w .gathered, c) (grams-hold grams₀ lines (omega arith) (omega (arith, ap length (w .gathered), grams-long grams₀ 0 lines)) k f (omega arith) l);
+  }
+
+  held : triplesIn grams (s .ts) ≡ map tripleOf (keep isT lines)
+  held = ap (triplesIn grams) counted ∙ triples-are grams lines copied
+
+  answer-6 : noneTwice sameTriple (triplesIn grams (s .ts)) ≡ isNoTripleTwice lines
+  answer-6 = answers-6 grams (s .ts) lines held (w .whole) ranged
+
+  pub repeated-so : false ≡ noneTwice sameTriple (triplesIn grams (s .ts)) → linesRefusal lines ≡ 6
+  repeated-so e = refusal-6 ∙ ap (λ (b : Bool). 6 unless b) (sym (e ∙ answer-6))
+
+  pub different-so : {heads links : List ℕ} → true ≡ noneTwice sameTriple (triplesIn grams (s .ts)) → Indexed grams heads links (s .ts) → Ready (linesRefusal lines) (bookOfLines lines) grams heads links s
+  unfolding bookOfLines
+  different-so e x = record {
+    passes = refusal-6 ∙ ap (λ (b : Bool). 6 unless b) (sym (e ∙ answer-6));
+    ps-is = ap (λ (x : Survey). x .ps) (w .surveyed) ∙ survey-ps lines ∙ sym (length-map (keep isP lines) entryOf ∙ keep-length isP lines);
+    ts-is = counted ∙ sym (length-map (keep isT lines) tripleOf ∙ keep-length isT lines);
+    triples-are = held;
+    different = sym e;
+    indexed = x;
+  }
+
+-- a refusal by questions 3 to 5 is the lines' refusal
+pub four-so : {lines : List (List ℤ)} {grams₀ grams : List ℤ} {s : Survey} → WholeAs lines grams₀ grams s → (refusal : Refusal) → number refusal ≡ fourOf s
+    → linesRefusal lines ≡ number refusal
+four-so {lines} w refusal e =
+    survey-refusal lines (w .whole)
+    ∙ ap (λ (j : ℕ). j orelse 6 unless isNoTripleTwice lines) (ap fourOf (sym (w .surveyed)) ∙ sym e)
+    ∙ refused-first (number refusal) _ (number-from refusal)
+
+-- ════ a loaded list
+
+-- its survey is that of its lines
+pub survey-loaded : (loaded grams₀ grams₁ : List ℤ) (r : Surveyed) → SurveyOf loaded grams₀ grams₁ r → SurveyIs (loadedLines loaded) grams₀ grams₁ r
+survey-loaded loaded grams₀ grams₁ (Whole s) e = record { whole = e .0; surveyed = e .1; gathered = e .2 }
+survey-loaded loaded grams₀ grams₁ Broken e = e

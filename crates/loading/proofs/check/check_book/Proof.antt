@@ -1,0 +1,40 @@
+-- What loading answers, without the lists, is the reply of questions 2 to 6.
+use Rattle.notes.specs.Book.{bookRefusal}
+use mathlib.Core.Path.{ap, _∙_}
+use Rattle.loading.proofs.Replies.{answer-reply}
+use Rattle.notes.specs.Reply.{checkedReply, checkBook}
+use borrow.Author.Needs.{needs}
+use Rattle.loading.proofs.check.check_book.Statement.{statement}
+use Rattle.loading.proofs.check.check_book.Tie as tie
+
+slice-aggregate-load : tie.Need-slice-aggregate-load
+slice-aggregate-load c = search needs
+
+slice-aggregate-load-2 : tie.Need-slice-aggregate-load-2
+slice-aggregate-load-2 c = search needs
+
+slice-aggregate-load-3 : tie.Need-slice-aggregate-load-3
+slice-aggregate-load-3 c = search needs
+
+load-requires : tie.Need-load-requires
+load-requires c κs = search needs
+
+reply-of-requires : tie.Need-reply-of-requires
+reply-of-requires c κs = search needs
+
+returns : tie.Need-returns
+unfolding checkBook
+returns c =
+    let k = c .before .before .before .before .load in
+    ap checkedReply (c .reply-of .ensures) ∙ answer-reply (bookRefusal (c .before .before .before .before .before .before .before .before .args .book .now)) _ _ _ _ (k .result) (k .ensures .0)
+
+pub check-book-spec : {M : Type 1} → statement M
+check-book-spec =
+    tie.close
+    (tie.spec
+    slice-aggregate-load
+    slice-aggregate-load-2
+    slice-aggregate-load-3
+    load-requires
+    reply-of-requires
+    returns)

@@ -1,0 +1,38 @@
+-- A survey of lines that are not all whole is refusal 2; of whole lines, questions 3 to 6 are asked.
+use Rattle.book.proofs.Counts.{broken-refusal}
+use borrow.Author.Needs.{needs}
+use Rattle.loading.proofs.load.settle.Statement.{statement}
+use Rattle.loading.proofs.load.settle.Tie as tie
+
+enum-known-surveyed : tie.Need-enum-known-surveyed
+enum-known-surveyed c = search needs
+
+settle-whole-requires : tie.Need-settle-whole-requires
+settle-whole-requires c κs = search needs
+
+enum-told : tie.Need-enum-told
+enum-told c = search needs
+
+same-length : tie.Need-same-length
+same-length c = search needs
+
+same-length-2 : tie.Need-same-length-2
+same-length-2 c = search needs
+
+returns : tie.Need-returns
+returns c = λ lines grams₀ w. c .before .before .before .before .settle-whole .ensures lines grams₀ (rw (c .before .before .before .before .before .before .before .before .surveyed .given .1) at w)
+
+returns-2 : tie.Need-returns-2
+returns-2 c = λ lines grams₀ w. broken-refusal lines (rw (c .enum-told .given .1) at w)
+
+pub settle-spec : {M : Type 1} → statement M
+settle-spec =
+    tie.close
+    (tie.spec
+    enum-known-surveyed
+    settle-whole-requires
+    enum-told
+    same-length
+    same-length-2
+    returns
+    returns-2)

@@ -1,0 +1,44 @@
+-- What questions 3 to 5 answer is the lines' refusal, and where they pass, what question 6 answers.
+use mathlib.Core.Path.{sym, ap, _∙_}
+use Rattle.loading.proofs.Answers.{four-so}
+use Rattle.loading.specs.Loaded.{refusalOf}
+use borrow.Author.Needs.{needs}
+use Rattle.loading.proofs.load.settle_whole.Statement.{statement}
+use Rattle.loading.proofs.load.settle_whole.Tie as tie
+
+judge-requires : tie.Need-judge-requires
+judge-requires c κs = search needs
+
+enum-told : tie.Need-enum-told
+enum-told c = search needs
+
+compare-requires : tie.Need-compare-requires
+compare-requires c κs = (c .before .before .before .before .before .before .before .pre, sym (c .before .before .before .before .judge .ensures) ∙ ap refusalOf (c .before .before .enum-told .given .1))
+
+enum-known-refusal : tie.Need-enum-known-refusal
+enum-known-refusal c = search needs
+
+same-length : tie.Need-same-length
+same-length c = search needs
+
+same-length-2 : tie.Need-same-length-2
+same-length-2 c = search needs
+
+returns : tie.Need-returns
+returns c = search needs
+
+returns-2 : tie.Need-returns-2
+returns-2 c = λ lines grams₀ w. four-so w (c .before .refusal .given .0 .0) (sym (ap refusalOf (c .before .refusal .given .1)) ∙ c .before .before .before .judge .ensures)
+
+pub settle-whole-spec : {M : Type 1} → statement M
+settle-whole-spec =
+    tie.close
+    (tie.spec
+    judge-requires
+    enum-told
+    compare-requires
+    enum-known-refusal
+    same-length
+    same-length-2
+    returns
+    returns-2)

@@ -1,0 +1,2 @@
+pub mod Scoring
+pub mod Whole

@@ -1,0 +1,69 @@
+-- The steps that code reads are those that the plain numbers stand for, and the reply to them is that to the list.
+use Prim.Native.Nat.{ℕ, zero, suc, _+_, _*_}
+use native.Mathlib.Omega.{arith}
+use mathlib.Core.Path.{_≡_, refl, _∙_, ap}
+use mathlib.Core.List.{List, [], _∷_, _++_, map, map-append}
+use lib.IntN.{ℤ}
+use Rattle.laws.specs.Lists.{numbersFrom}
+use Rattle.laws.proofs.Lists.{numbers-next}
+use Rattle.notes.specs.Questions.{_orelse_, number}
+use Rattle.notes.specs.Book.{bookRefusal, bookOf}
+use Rattle.notes.specs.Direction.{wordCount, directionRefusal}
+use Rattle.notes.specs.Derivation.{scoreOf}
+use Rattle.notes.specs.State.{start}
+use Rattle.notes.specs.Reply.{Reply, refused, reply, stepsRefusal, proposalRefusal, scoreProposal}
+use Rattle.notes.specs.declared.Step.{Step}
+use Rattle.notes.specs.declared.Refusal.{Refusal}
+use Rattle.loading.proofs.Numbered.{refused-before-all, refused-reply}
+use Rattle.proposal.specs.Proposal.{stepIn, stepsIn}
+use Rattle.records.specs.declared.Plain.{Plain}
+use Rattle.records.specs.Plain.{stepIn as recordIn, stepsTo, stepsOf}
+
+-- ════ steps as numbers
+
+-- one step, whichever way its places are counted
+same-place : (numbers : List ℕ) (p : Plain) (i : ℕ) → p .numbers ≡ numbers → stepIn numbers i ≡ recordIn p i
+same-place numbers p i e = let z : 3 * i ≡ i * 3 = omega arith in rw (e, z)
+
+-- one step more
+next-in : (numbers : List ℕ) (k : ℕ) → stepsIn numbers (suc k) ≡ stepsIn numbers k ++ (stepIn numbers k ∷ [])
+unfolding stepsIn
+next-in numbers k =
+    let z : suc k ≡ k + 1 = omega arith in
+    let y : 0 + k ≡ k = omega arith in
+    ap (λ (m : ℕ). map (stepIn numbers) (numbersFrom 0 m)) z
+    ∙ ap (map (stepIn numbers)) (numbers-next 0 k ∙ ap (λ (m : ℕ). numbersFrom 0 k ++ (m ∷ [])) y)
+    ∙ map-append (stepIn numbers) (numbersFrom 0 k) (k ∷ [])
+
+-- the first k steps, by the places 3 * i and by the places i * 3
+steps-to : (p : Plain) (k : ℕ) → stepsIn (p .numbers) k ≡ stepsTo p k
+unfolding stepsIn
+steps-to p zero = refl
+steps-to p (suc k) =
+    next-in (p .numbers) k
+    ∙ ap (λ (xs : List Step). xs ++ (stepIn (p .numbers) k ∷ [])) (steps-to p k)
+    ∙ ap (λ (s : Step). stepsTo p k ++ (s ∷ [])) (same-place (p .numbers) p k refl)
+
+-- all of them
+steps-same : (p : Plain) → stepsIn (p .numbers) (p .count) ≡ stepsOf p
+steps-same p = steps-to p (p .count)
+
+-- ════ the reply
+
+module _ (loaded : List ℤ) (direction : List ℕ) (steps : List Step) where
+  -- where the book and the direction pass, 16 to 19 give the reply
+  asked-last : bookRefusal loaded ≡ 0 → directionRefusal direction ≡ 0
+      → reply (stepsRefusal (bookOf loaded) direction (start (wordCount direction)) steps) (scoreOf (bookOf loaded) steps) ≡ scoreProposal loaded direction steps
+  unfolding scoreProposal proposalRefusal
+  asked-last b d = rw (b, d)
+
+  -- where one of them is refused, that is the reply
+  pub refused-before : (refusal : Refusal) → (bookRefusal loaded orelse directionRefusal direction) ≡ number refusal → refused (number refusal) ≡ scoreProposal loaded direction steps
+  unfolding scoreProposal proposalRefusal
+  refused-before refusal e = refused-reply refusal _ (scoreOf (bookOf loaded) steps) (refused-before-all refusal (bookRefusal loaded) (directionRefusal direction) _ e)
+
+-- what 16 to 19 answer to the numbers is the reply to the steps that they stand for
+pub scored-last : (loaded : List ℤ) (direction : List ℕ) (p : Plain) (y : Reply ℤ) → bookRefusal loaded ≡ 0 → directionRefusal direction ≡ 0
+    → y ≡ reply (stepsRefusal (bookOf loaded) direction (start (wordCount direction)) (stepsIn (p .numbers) (p .count))) (scoreOf (bookOf loaded) (stepsIn (p .numbers) (p .count)))
+    → y ≡ scoreProposal loaded direction (stepsOf p)
+scored-last loaded direction p y b d e = e ∙ asked-last loaded direction (stepsIn (p .numbers) (p .count)) b d ∙ ap (scoreProposal loaded direction) (steps-same p)

@@ -1,0 +1,3 @@
+pub mod Asking
+pub mod Long
+pub mod Scoring

@@ -1,0 +1,132 @@
+-- A list of steps of any length is judged by its first 33: each step that passes covers a word more, so of 32 words none is left for the 33rd.
+use Prim.Native.Nat.{ℕ, zero, suc, _+_, _≤_, _<_}
+use native.Mathlib.Omega.{arith}
+use mathlib.Core.Path.{_≡_, refl, sym, _∙_, ap, ap₂}
+use mathlib.Core.Logic.{_⊎_, ⊎-elim}
+use mathlib.Core.Bool.{true, false}
+use mathlib.Core.List.{List, [], _∷_, _++_, map, map-append}
+use lib.Dec.{leb}
+use lib.IntN.{ℤ}
+use lib.ListN.{length, getD, take, length-replicate}
+use lib.Seq.{take-all}
+use Rattle.laws.specs.Lists.{numbersFrom}
+use Rattle.laws.proofs.Tests.{by-test}
+use Rattle.laws.proofs.Lists.{count-le, take-next, numbers-next}
+use Rattle.notes.specs.Questions.{_unless_}
+use Rattle.notes.specs.Book.{Book}
+use Rattle.notes.specs.Direction.{wordCount}
+use Rattle.notes.specs.Derivation.{noStep, fits, jump, scoreOf}
+use Rattle.notes.specs.State.{Key, start, wordsCovered, isFree, nextKey}
+use Rattle.notes.specs.Reply.{Reply, reply, stepsRefusal}
+use Rattle.notes.specs.declared.Step.{Step}
+use Rattle.notes.proofs.Chains.{first-passes, rest-passes, test-passes}
+use Rattle.notes.proofs.Steps.{fits-facts}
+use Rattle.notes.proofs.Cover.{cover-length, cover-adds, none-covered}
+use Rattle.proposal.specs.Proposal.{stepIn, stepsIn}
+
+module _ (book : Book) (direction : List ℕ) where
+  -- a key has a bit for each word
+  abbrev Whole : Key → Type 0
+  Whole k = length (k .covered) ≡ wordCount direction
+
+  next-whole : (k : Key) (step : Step) → Whole k → Whole (nextKey book k step)
+  unfolding nextKey
+  next-whole k step w = cover-length step 1 (k .covered) ∙ w
+
+  next-more : (k : Key) (step : Step) → Whole k → fits book direction step ≡ true → isFree step 1 (k .covered) ≡ true → wordsCovered k < wordsCovered (nextKey book k step)
+  unfolding wordsCovered nextKey wordCount
+  next-more k step w fit free =
+      let h = fits-facts book direction step fit in
+      let a = h .first-to in
+      let b = h .last-to in
+      cover-adds step 1 (k .covered) free (h .first-from) (h .first-to) (omega arith)
+
+  covered-most : (k : Key) → wordsCovered k ≤ length (k .covered)
+  unfolding wordsCovered
+  covered-most k = count-le (λ bit. bit) (k .covered)
+
+  -- the first m steps decide, where m is more than the words that are not covered
+  pub refusal-front : (m : ℕ) (k : Key) (steps : List Step) → Whole k → length (k .covered) < wordsCovered k + m
+      → stepsRefusal book direction k (take m steps) ≡ stepsRefusal book direction k steps
+  unfolding stepsRefusal
+  refusal-front zero k steps w h = absurd (let c = covered-most k in omega arith)
+  refusal-front (suc m) k [] w h = refl
+  refusal-front (suc m) k (step ∷ steps) w h =
+      by-test (fits book direction step)
+      (λ a. by-test (isFree step 1 (k .covered))
+      (λ b. by-test (leb (jump (k .r) step) (book .limit))
+      (λ d. let x = next-more k step w a b in
+      let l = next-whole k step w in
+      rw (a, b, d) (refusal-front m (nextKey book k step) steps l (omega arith)))
+      (λ d. rw (a, b, d)))
+      (λ b. rw (a, b)))
+      (λ a. rw a)
+
+  -- a list that passes has no more steps than there were words to cover
+  pub passes-short : (k : Key) (steps : List Step) → Whole k → stepsRefusal book direction k steps ≡ 0 → length steps + wordsCovered k ≤ length (k .covered)
+  unfolding stepsRefusal
+  passes-short k [] w e = let c = covered-most k in omega arith
+  passes-short k (step ∷ steps) w e =
+      let after16 = rest-passes (16 unless fits book direction step) _ e in
+      let after17 = rest-passes (17 unless isFree step 1 (k .covered)) _ after16 in
+      let after18 = rest-passes (18 unless leb (jump (k .r) step) (book .limit)) _ after17 in
+      let a = test-passes 15 (fits book direction step) (first-passes (16 unless fits book direction step) _ e) in
+      let b = test-passes 16 (isFree step 1 (k .covered)) (first-passes (17 unless isFree step 1 (k .covered)) _ after16) in
+      let x = next-more k step w a b in
+      let l : length (nextKey book k step .covered) ≡ wordCount direction = next-whole k step w in
+      let ih = passes-short (nextKey book k step) steps l after18 in
+      omega arith
+
+  start-whole : Whole (start (wordCount direction))
+  unfolding start
+  start-whole = length-replicate (wordCount direction) false
+
+  start-none : wordsCovered (start (wordCount direction)) ≡ 0
+  unfolding wordsCovered start
+  start-none = none-covered (wordCount direction)
+
+  same-reply : {A : Type 0} (k : ℕ) (a b : A) → (k ≡ 0 → a ≡ b) → reply k a ≡ reply k b
+  same-reply zero a b e = ap (reply 0) (e refl)
+  same-reply (suc k) a b e = refl
+
+  -- "Scoring a proposed list": its first 33 steps give the reply of the whole list
+  pub front-decides : wordCount direction ≤ 32 → (steps : List Step)
+      → reply (stepsRefusal book direction (start (wordCount direction)) (take 33 steps)) (scoreOf book (take 33 steps))
+      ≡ reply (stepsRefusal book direction (start (wordCount direction)) steps) (scoreOf book steps)
+  front-decides few steps =
+      let w = start-whole in
+      let z = start-none in
+      ap (λ (k : ℕ). reply k (scoreOf book (take 33 steps))) (refusal-front 33 (start (wordCount direction)) steps w (omega arith))
+      ∙ same-reply (stepsRefusal book direction (start (wordCount direction)) steps) (scoreOf book (take 33 steps)) (scoreOf book steps)
+      (λ e. let s = passes-short (start (wordCount direction)) steps w e in ap (scoreOf book) (take-all 33 steps (omega arith)))
+
+-- ════ a list of step records, put down as numbers
+
+shown-next : (numbers : List ℕ) (m : ℕ) → stepsIn numbers (m + 1) ≡ stepsIn numbers m ++ (stepIn numbers m ∷ [])
+unfolding stepsIn
+shown-next numbers m =
+    let z : 0 + m ≡ m = omega arith in
+    ap (map (stepIn numbers)) (numbers-next 0 m ∙ ap (λ (k : ℕ). numbersFrom 0 m ++ (k ∷ [])) z) ∙ map-append (stepIn numbers) (numbersFrom 0 m) (m ∷ [])
+
+-- where the numbers show the first `count` records, the steps that code reads are those
+pub steps-shown : (numbers : List ℕ) (steps : List Step) (count : ℕ) → count ≤ length steps → ((i : ℕ) → i < count → stepIn numbers i ≡ getD steps i noStep)
+    → stepsIn numbers count ≡ take count steps
+unfolding stepsIn
+steps-shown numbers steps zero h each = refl
+steps-shown numbers steps (suc m) h each =
+    let z : suc m ≡ m + 1 = omega arith in
+    ap (stepsIn numbers) z ∙ shown-next numbers m
+    ∙ ap₂ (λ (xs : List Step) (s : Step). xs ++ (s ∷ [])) (steps-shown numbers steps m (omega arith) (λ i l. each i (omega arith))) (each m (omega arith))
+    ∙ sym (take-next steps m noStep (omega arith)) ∙ ap (λ (k : ℕ). take k steps) (sym z)
+
+-- so where they are all of them, or the first 33, the numbers get the reply of the whole list
+pub numbers-decide : (book : Book) (direction : List ℕ) (numbers : List ℕ) (steps : List Step) (count : ℕ) → wordCount direction ≤ 32
+    → count ≤ length steps → (length steps ≤ count) ⊎ (count ≡ 33) → ((i : ℕ) → i < count → stepIn numbers i ≡ getD steps i noStep)
+    → reply (stepsRefusal book direction (start (wordCount direction)) (stepsIn numbers count)) (scoreOf book (stepsIn numbers count))
+    ≡ reply (stepsRefusal book direction (start (wordCount direction)) steps) (scoreOf book steps)
+numbers-decide book direction numbers steps count few h which each =
+    ap whole (steps-shown numbers steps count h each)
+    ∙ ⊎-elim (λ a. ap whole (take-all count steps a)) (λ e. ap (λ (m : ℕ). whole (take m steps)) e ∙ front-decides book direction few steps) which
+  where
+    whole : List Step → Reply ℤ
+    whole xs = reply (stepsRefusal book direction (start (wordCount direction)) xs) (scoreOf book xs)

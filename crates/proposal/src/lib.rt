@@ -1,0 +1,132 @@
+// A proposed list of steps on plain numbers, (first, last, entry) for each: questions 16 to 19, and the score.
+use derivation::Task;
+use derivation::places;
+use derivation::step;
+use notes::Refusal;
+use notes::Scored;
+use notes::State;
+ghost use mathlib.Core.Path.{_≡_};
+ghost use Prim.Native.Nat.{ℕ, _+_, _*_, _≤_, _<_};
+ghost use lib.ListN.{length};
+ghost use Rattle.notes.specs.Book.{bookOf};
+ghost use Rattle.notes.specs.Direction.{wordCount};
+ghost use Rattle.notes.specs.Derivation.{fits, scoreOf};
+ghost use Rattle.notes.specs.State.{start};
+ghost use Rattle.notes.specs.Reply.{reply, scoredReply, stepsRefusal};
+ghost use Rattle.book.specs.Entries.{EntriesAt};
+ghost use Rattle.derivation.specs.Prepared.{Prepared};
+ghost use Rattle.proposal.specs.Proposal.{stepOf, stepsIn, Ready, AskedOf};
+
+pub enum Asked {
+    Next(State),
+    Refused(Refusal),
+}
+
+// Question 16: the entry is in the book, and its source words are the direction's words first to last.
+fn is_fitting(
+    book: &[i32],
+    entries: &[usize],
+    t: Task,
+    direction: &[u16],
+    first: usize,
+    last: usize,
+    entry: usize,
+) -> bool
+    requires { ⌜ EntriesAt (now book) (now entries) (t .phrases) ⌝ }
+    requires { ⌜ t .phrases ≤ length (now entries) ⌝ }
+    ensures { λ r. ⌜ r ≡ fits (bookOf (now (book .entry))) (now (direction .entry)) (stepOf first last entry) ⌝ }
+{
+    if entry < 1 {
+        return false;
+    }
+    if t.phrases < entry {
+        return false;
+    }
+    let p = places::phrase_at(book, entries, t.phrases, entry);
+    options::fits_at(book, p, direction, first, last)
+}
+
+// 16, 17 and 18 of one step from the state s on, or the state that it leads to.
+pub fn ask_step(
+    book: &[i32],
+    entries: &[usize],
+    grams: &[i32],
+    heads: &[u16],
+    links: &[u16],
+    t: Task,
+    direction: &[u16],
+    s: State,
+    first: u16,
+    last: u16,
+    entry: u16,
+) -> Asked
+    requires { ⌜ Prepared (now book) (now direction) (now grams) (now heads) (now links) t ⌝ }
+    requires { ⌜ EntriesAt (now book) (now entries) (t .phrases) ⌝ }
+    requires { ⌜ t .phrases ≤ length (now entries) ⌝ }
+    requires { ⌜ Ready (now direction) s ⌝ }
+    ensures { λ r. ⌜ AskedOf (bookOf (now (book .entry))) (now (direction .entry)) s (stepOf first last entry) r ⌝ }
+{
+    let first = first as usize;
+    let last = last as usize;
+    let entry = entry as usize;
+    if !is_fitting(book, entries, t, direction, first, last, entry) {
+        return Asked::Refused(Refusal::DoesNotFit);
+    }
+    let runs = coverage::free_runs(s.covered, t.n);
+    if !coverage::is_free(runs, first, last) {
+        return Asked::Refused(Refusal::CoveredTwice);
+    }
+    if t.limit < step::jump(s.r as usize, first) {
+        return Asked::Refused(Refusal::JumpTooLong);
+    }
+    let p = places::phrase_at(book, entries, t.phrases, entry);
+    Asked::Next(step::next_state(book, grams, heads, links, t, p, first, last, s))
+}
+
+// Questions 16 to 19 of the first `count` steps, in their order, and their score where none refuses.
+pub fn score_steps(
+    book: &[i32],
+    entries: &[usize],
+    grams: &[i32],
+    heads: &[u16],
+    links: &[u16],
+    t: Task,
+    direction: &[u16],
+    steps: &[u16],
+    count: usize,
+) -> Scored
+    requires { ⌜ Prepared (now book) (now direction) (now grams) (now heads) (now links) t ⌝ }
+    requires { ⌜ EntriesAt (now book) (now entries) (t .phrases) ⌝ }
+    requires { ⌜ t .phrases ≤ length (now entries) ⌝ }
+    requires { ⌜ 3 * count ≤ length (now steps) ⌝ }
+    ensures { λ r. ⌜ scoredReply r ≡ reply (stepsRefusal (bookOf (now (book .entry))) (now (direction .entry)) (start (wordCount (now (direction .entry)))) (stepsIn (now (steps .entry)) count)) (scoreOf (bookOf (now (book .entry))) (stepsIn (now (steps .entry)) count)) ⌝ }
+{
+    let mut s = State::START;
+    let mut i = 0;
+    while i < count {
+        let first = steps[3 * i];
+        let last = steps[3 * i + 1];
+        let entry = steps[3 * i + 2];
+        match ask_step(
+            book,
+            entries,
+            grams,
+            heads,
+            links,
+            t,
+            direction,
+            s,
+            first,
+            last,
+            entry,
+        ) {
+            Asked::Next(next) => s = next,
+            Asked::Refused(refusal) => return Scored::Refused(refusal),
+        }
+        i += 1;
+    }
+    if s.covered != coverage::covered_with(0, 1, t.n) {
+        return Scored::Refused(Refusal::Uncovered);
+    }
+    Scored::Score(s.score)
+}

@@ -1,0 +1,21 @@
+-- From the answer of a load to the reply of a reading.
+use Prim.Native.Nat.{ℕ}
+use mathlib.Core.Path.{_≡_, sym}
+use mathlib.Core.Bool.{true}
+use mathlib.Core.List.{List}
+use lib.IntN.{ℤ}
+use lib.ListN.{length}
+use Rattle.notes.specs.Book.{Book, isBookText, textLines, loadedOf, linesRefusal}
+use Rattle.notes.specs.Reply.{reply, readReply}
+use Rattle.notes.proofs.Chains.{reply-done}
+use Rattle.loading.specs.Loaded.{Answered}
+use Rattle.loading.specs.declared.load.Loaded.{Loaded}
+use Rattle.loading.specs.declared.load.Loaded.the-variants.{Book as Passes, Refused}
+use Rattle.loading.proofs.Numbered.{refused-reply}
+use Rattle.reading.specs.Text.{textRefusal, countedAs}
+
+-- the reply of a text, with the count of its numbers
+pub answer-counted : (t : List ℕ) (count : ℕ) (book : Book) (grams : List ℤ) (heads links : List ℕ) (r : Loaded) → isBookText t ≡ true → count ≡ length (loadedOf t)
+    → Answered (linesRefusal (textLines t)) book grams heads links r → readReply (countedAs r count) ≡ reply (textRefusal t) (length (loadedOf t))
+answer-counted t count book grams heads links (Passes s) i c a = rw (c, i) (sym (reply-done (linesRefusal (textLines t)) (length (loadedOf t)) (a .passes)))
+answer-counted t count book grams heads links (Refused refusal) i c a = rw i (refused-reply refusal (linesRefusal (textLines t)) (length (loadedOf t)) a)

@@ -1,0 +1,166 @@
+// The sets of states, one after the other: those that cover no word, one word, and so on, and each state within the width is extended.
+use extending::Job;
+use notes::State;
+use states::Grown;
+use store::Place;
+ghost use mathlib.Core.Path.{_≡_};
+ghost use Prim.Native.Nat.{ℕ, _+_, _*_, _^_, _≤_, _<_};
+ghost use lib.IntN.{ℤ, pos};
+ghost use lib.ListN.{length, getD, replicate};
+ghost use Rattle.search_theory.specs.Search.{upto};
+ghost use Rattle.notes.specs.Book.{bookOf};
+ghost use Rattle.notes.specs.Direction.{wordCount};
+ghost use Rattle.notes.specs.Search.{search};
+ghost use Rattle.states.specs.Ghost.{Levelling, Levelled, Starting, Reached, topOf};
+ghost use Rattle.extending.specs.Extend.{Ready};
+
+// The place j of the set i, whose best score is `top`: it is passed over where it covers another number of words or is out of the
+// width, and else extended.
+fn visit(
+    store: &mut [i64],
+    count: usize,
+    book: &[i32],
+    direction: &[u16],
+    entries: &[usize],
+    grams: &[i32],
+    heads: &[u16],
+    links: &[u16],
+    options: &[u16],
+    starts: &[usize],
+    job: Job,
+    i: usize,
+    j: usize,
+    top: i64,
+) -> Grown
+    requires { ⌜ Ready (now book) (now direction) (now entries) (now grams) (now heads) (now links) (now options) (now starts) (job .task) ⌝ }
+    requires { ⌜ (i < job .task .n) × (j < length (upto (search (bookOf (now book)) (now direction) (job .width)) i)) ⌝ }
+    requires { ⌜ top ≡ topOf (bookOf (now book)) (now direction) (job .width) i ⌝ }
+    requires { ⌜ Levelling (bookOf (now book)) (now direction) (job .width) i j (now store) count ⌝ }
+    ensures { λ r. ⌜ Levelled (bookOf (now (book .entry))) (now (direction .entry)) (job .width) i (j + 1) (now (store .exit)) r ⌝ }
+{
+    let x = store::places::place_at(store, j);
+    if x.size != i {
+        return Grown::On(count);
+    }
+    if !states::reading::is_within(top, x.state, job.width) {
+        return Grown::On(count);
+    }
+    extending::extend_all(
+        store,
+        count,
+        book,
+        direction,
+        entries,
+        grams,
+        heads,
+        links,
+        options,
+        starts,
+        job,
+        x,
+        j,
+    )
+}
+
+// The set i is extended: the states that cover i words, in the order in which they were entered.
+fn level(
+    store: &mut [i64],
+    count: usize,
+    book: &[i32],
+    direction: &[u16],
+    entries: &[usize],
+    grams: &[i32],
+    heads: &[u16],
+    links: &[u16],
+    options: &[u16],
+    starts: &[usize],
+    job: Job,
+    i: usize,
+) -> Grown
+    requires { ⌜ Ready (now book) (now direction) (now entries) (now grams) (now heads) (now links) (now options) (now starts) (job .task) ⌝ }
+    requires { ⌜ i < job .task .n ⌝ }
+    requires { ⌜ Starting (bookOf (now book)) (now direction) (job .width) i (now store) count ⌝ }
+    ensures { λ r. ⌜ Reached (bookOf (now (book .entry))) (now (direction .entry)) (job .width) (i + 1) (now (store .exit)) r ⌝ }
+{
+    let top = states::reading::top_score(store, count, i);
+    let mut c = count;
+    let mut j = 0;
+    while j < count {
+        let Grown::On(more) = visit(
+            store,
+            c,
+            book,
+            direction,
+            entries,
+            grams,
+            heads,
+            links,
+            options,
+            starts,
+            job,
+            i,
+            j,
+            top,
+        ) else {
+            return Grown::Overflow;
+        };
+        c = more;
+        j += 1;
+    }
+    Grown::On(c)
+}
+
+// All sets but the last are extended, from the start state on. The store holds zeros only at first.
+pub fn search(
+    store: &mut [i64],
+    book: &[i32],
+    direction: &[u16],
+    entries: &[usize],
+    grams: &[i32],
+    heads: &[u16],
+    links: &[u16],
+    options: &[u16],
+    starts: &[usize],
+    job: Job,
+) -> Grown
+    requires { ⌜ Ready (now book) (now direction) (now entries) (now grams) (now heads) (now links) (now options) (now starts) (job .task) ⌝ }
+    requires { ⌜ now store ≡ replicate (length (now store)) (pos 0) ⌝ }
+    ensures { λ r. ⌜ Reached (bookOf (now (book .entry))) (now (direction .entry)) (job .width) (wordCount (now (direction .entry))) (now (store .exit)) r ⌝ }
+{
+    if store.len() < 8 {
+        return Grown::Overflow;
+    }
+    store::index::append_place(
+        store,
+        0,
+        Place {
+            state: State::start(),
+            size: 0,
+            parent: 0,
+            option: 0,
+        },
+    );
+    let mut c = 1;
+    let mut i = 0;
+    while i < job.task.n {
+        let Grown::On(more) = level(
+            store,
+            c,
+            book,
+            direction,
+            entries,
+            grams,
+            heads,
+            links,
+            options,
+            starts,
+            job,
+            i,
+        ) else {
+            return Grown::Overflow;
+        };
+        c = more;
+        i += 1;
+    }
+    Grown::On(c)
+}

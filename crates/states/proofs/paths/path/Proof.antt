@@ -1,0 +1,82 @@
+-- The steps are written from the last to the first: each turn writes the option of the place and goes to its parent, whose steps are the ones before.
+use borrow.Author.Needs.{needs}
+use native.Mathlib.Omega.{arith}
+use mathlib.Core.Path.{_≡_, refl, _∙_}
+use mathlib.Core.List.{List}
+use Prim.Native.Nat.{ℕ, _<_, _≤_}
+use lib.ListN.{length, length-set}
+use Rattle.notes.specs.State.{Hyp}
+use Rattle.notes.specs.declared.Step.{Step}
+use Rattle.states.specs.Back.{Chains, Behind}
+use Rattle.states.proofs.Back.{back-starts, back-goes, back-ends}
+use Rattle.states.proofs.paths.path.Statement.{statement}
+use Rattle.states.proofs.paths.path.Tie as tie
+
+abbrev Inv-loop : tie.InvT-loop
+Inv-loop store k out₀ d at₀ left₀ out at left = (left ≤ d) × ((length out ≡ length out₀) × ((f : ℕ → Step) (m : ℕ) (l : List Hyp) → Chains f m store l → k < length l → Behind f m l k d out at left))
+
+abbrev μ-loop : tie.MeasureT-loop
+μ-loop store k out₀ d at₀ left₀ out at left = left
+
+-- the list is as long as the longest path
+room : (c : tie.After-place-at Inv-loop μ-loop) → c .before .before .before .depth .result ≤ length (c .before .before .loop .out)
+room c =
+    let q = c .before .before .before .before .before .pre .0 in
+    omega (arith, c .before .before .before .depth .ensures (q .step) (q .options) (q .list) (q .chains) (q .inside), q .short, c .before .before .loop .inv .1 .0, c .before .before .before .before .before .pre .1)
+
+depth-requires : tie.Need-depth-requires Inv-loop μ-loop
+depth-requires c κs = c .before .pre .0
+
+loop-holds : tie.Need-loop-holds Inv-loop μ-loop
+loop-holds c = (omega arith, (refl, λ f m l g h. back-starts h (c .depth .ensures f m l g h)))
+
+sub-left : tie.Need-sub-left Inv-loop μ-loop
+sub-left c = search needs
+
+place-at-requires : tie.Need-place-at-requires Inv-loop μ-loop
+place-at-requires c κs =
+    let q = c .before .before .before .before .pre .0 in
+    let h = c .before .loop .inv .1 .1 (q .step) (q .options) (q .list) (q .chains) (q .inside) in
+    omega (arith, h .inside, q .chains .room)
+
+mul-out : tie.Need-mul-out Inv-loop μ-loop
+mul-out c = let h = room c in omega arith
+
+slice-write-out : tie.Need-slice-write-out Inv-loop μ-loop
+slice-write-out c = let h = room c in omega arith
+
+loop-less : tie.Need-loop-less Inv-loop μ-loop
+loop-less c = search needs
+
+loop-again : tie.Need-loop-again Inv-loop μ-loop
+loop-again c =
+    let p = c .before .before .loop in (
+      omega arith,
+      (
+        length-set (p .out) _ _ ∙ p .inv .1 .0,
+        λ f m l g h. back-goes g _ _ (p .out) (p .at) (p .left) (c .place-at .result) (c .before .loop-test .taken) (p .inv .0) (room c) (c .place-at .ensures) (p .inv .1 .1 f m l g h),
+      ),
+    )
+
+same-length : tie.Need-same-length Inv-loop μ-loop
+same-length c = c .before .loop .inv .1 .0
+
+returns : tie.Need-returns Inv-loop μ-loop
+returns c = λ f m l g h. back-ends (c .loop-test .left) (c .before .before .depth .ensures f m l g h) (c .before .loop .inv .1 .1 f m l g h)
+
+pub path-spec : {M : Type 1} → statement M
+path-spec =
+    tie.close
+    (tie.spec
+    Inv-loop
+    μ-loop
+    depth-requires
+    loop-holds
+    sub-left
+    place-at-requires
+    mul-out
+    slice-write-out
+    loop-less
+    loop-again
+    same-length
+    returns)

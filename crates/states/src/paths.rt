@@ -1,0 +1,43 @@
+// The options that led to a state, by the parents' places.
+use store::places;
+ghost use mathlib.Core.Path.{_≡_};
+ghost use mathlib.Core.List.{List};
+ghost use Prim.Native.Nat.{ℕ, _<_, _≤_};
+ghost use lib.ListN.{length, getD};
+ghost use Rattle.notes.specs.State.{Hyp};
+ghost use Rattle.notes.specs.declared.Step.{Step};
+ghost use Rattle.states.specs.Shows.{nobody};
+ghost use Rattle.states.specs.Back.{Chains, Leads, Way};
+
+// How many steps lead to the place k.
+fn depth(store: &[i64], k: usize) -> usize
+    requires { ⌜ Leads (now store) k 32 ⌝ }
+    ensures { λ r. ⌜ ((f : ℕ → Step) (m : ℕ) (l : List Hyp) → Chains f m (now (store .entry)) l → k < length l → r ≡ length (getD l k nobody .steps)) ⌝ }
+{
+    let mut at = k;
+    let mut d: usize = 0;
+    while at > 0 {
+        let x = places::place_at(store, at);
+        at = x.parent;
+        d += 1;
+    }
+    d
+}
+
+// Writes the numbers of the options that led to the place k, the first step's first, and answers how many there are.
+pub fn path(store: &[i64], k: usize, out: &mut [usize]) -> usize
+    requires { ⌜ Leads (now store) k 32 ⌝ }
+    requires { ⌜ 32 ≤ length (now out) ⌝ }
+    ensures { λ r. ⌜ ((f : ℕ → Step) (m : ℕ) (l : List Hyp) → Chains f m (now (store .entry)) l → k < length l → Way f m (getD l k nobody .steps) (now (out .exit)) r) ⌝ }
+{
+    let d = depth(store, k);
+    let mut at = k;
+    let mut left = d;
+    while left > 0 {
+        left -= 1;
+        let x = places::place_at(store, at);
+        out[left] = x.option;
+        at = x.parent;
+    }
+    d
+}
