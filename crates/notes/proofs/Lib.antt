@@ -13,4 +13,5 @@ pub mod Instance
 pub mod Answers
 pub mod Widths
 pub mod Demands
+pub mod Reach
 pub mod Rooms
