@@ -14,5 +14,5 @@ pub mod Answers
 pub mod Widths
 pub mod Demands
 pub mod Reach
-pub mod Only
 pub mod Rooms
+pub mod Only

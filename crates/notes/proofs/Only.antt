@@ -1,5 +1,6 @@
 -- The steps of drawers d and e are the only ones with that score: every sequence of steps that may be taken from the start is tried, by computing.
-use Prim.Native.Nat.{ℕ, zero, suc}
+use Prim.Native.Nat.{ℕ, zero, suc, _*_, _≤_}
+use native.Mathlib.Omega.{arith}
 use mathlib.Core.Path.{_≡_, refl, _∙_, ap}
 use mathlib.Core.Bool.{Bool, true, false, not, _&&_, _||_, false≢true}
 use mathlib.Core.List.{List, [], _∷_}
@@ -17,10 +18,12 @@ use Rattle.notes.specs.Direction.{wordCount}
 use Rattle.notes.specs.Derivation.{isValid, scoreOf}
 use Rattle.notes.specs.State.{Key, start, wordsCovered, mayExtend, nextKey}
 use Rattle.notes.specs.Search.{fittingSteps, search}
+use Rattle.notes.specs.Reply.{done, Outcome, decode}
 use Rattle.notes.specs.declared.Step.{Step}
 use Rattle.notes.proofs.Computing.{computing}
 use Rattle.notes.proofs.Instance.{valid-allowed}
-use Rattle.notes.proofs.Drawers.{bytes, short, direction, minus, step, eqStep}
+use Rattle.notes.proofs.Drawers.{bytes, short, direction, minus, off, step, eqStep}
+use Rattle.notes.proofs.Rooms.{decode-room}
 
 step-is : (p q : Step) → eqStep p q ≡ true → p ≡ q
 step-is p q e =
@@ -79,3 +82,26 @@ only-d = only-steps (bookOf (short 2)) direction 3 (minus 120) (step 2 2 2 ∷ s
 pub only-e : Only (short 1) (minus 150) (step 1 1 1 ∷ step 2 2 2 ∷ [])
 unfolding computing eachPasses bytes short
 only-e = only-steps (bookOf (short 1)) direction 3 (minus 150) (step 1 1 1 ∷ step 2 2 2 ∷ []) refl
+
+-- ════ and decoding answers, into lists of n and 8 × n places or more, and a store of 512 states
+
+abbrev pub Decoding : List ℤ → ℕ → ℕ → Outcome → Type 0
+Decoding loaded steps words a = decode loaded direction off (record { steps = steps; words = words; store = 8 * 512 }) ≡ done a
+
+shortest-d : Decoding (short 2) 2 16 (record { score = minus 120; states = 5 })
+unfolding computing bytes short
+shortest-d = refl
+
+shortest-e : Decoding (short 1) 2 16 (record { score = minus 150; states = 4 })
+unfolding computing bytes short
+shortest-e = refl
+
+room : (loaded : List ℤ) (steps words : ℕ) (a : Outcome) → 2 ≤ steps → 16 ≤ words → Decoding loaded 2 16 a → Decoding loaded steps words a
+unfolding wordCount
+room loaded steps words a h g e = decode-room loaded direction off steps words 2 16 (8 * 512) (λ _. (h, g)) (λ _. (omega arith, omega arith)) ∙ e
+
+pub decode-d : (steps words : ℕ) → 2 ≤ steps → 16 ≤ words → Decoding (short 2) steps words (record { score = minus 120; states = 5 })
+decode-d steps words h g = room (short 2) steps words _ h g shortest-d
+
+pub decode-e : (steps words : ℕ) → 2 ≤ steps → 16 ≤ words → Decoding (short 1) steps words (record { score = minus 150; states = 4 })
+decode-e steps words h g = room (short 1) steps words _ h g shortest-e
