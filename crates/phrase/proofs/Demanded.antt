@@ -127,30 +127,36 @@ module _ (loaded : List ℤ) (direction : List ℕ) (width : ℤ) (steps₀ step
   pub decode-demands : DecodeDemands loaded direction width steps₀ steps₁ words₀ words₁ store₀ store₁ result
   decode-demands =
       record {
-        taken = taken;
-        turned-down = turned-down;
-        steps-kept = λ refusal e. lists refusal e .0;
-        words-kept = λ refusal e. lists refusal e .1;
-        store-kept = λ refusal e h.
-            let b = Notes.refused-early loaded direction width lent (number refusal) h (turned refusal e) in
-            let n = number-from refusal in
-            store-same (omega arith);
-        store-cleared = λ refusal e h. store-zero (Notes.refused-late loaded direction width lent (number refusal) h (turned refusal e));
-        answered-cleared = λ r. store-zero (Notes.answered loaded direction width lent (outcome (r .0)) (decoded (r .0) (r .1)) .before);
-        valid-and-exact = λ a e. subst (λ (r : Decoded). ListsAfter book direction r steps₀ steps₁ words₀ words₁) e (D .lists-are);
-        states-entered = states-entered;
-        states-reachable = λ w a e keys r. states-entered a e ∙ ap (λ (v : ℤ). length (entered book direction v)) w ∙ entered-counted book direction keys r;
-        none-valid = λ w e steps. is-false (λ v. Notes.decode-none loaded direction lent (decode-at (negsuc 0) w ∙ turned NoDerivation e) steps v);
-        gives-14 = λ w b r f. says NoDerivation (sym (decode-at (negsuc 0) w) ∙ Notes.none-decode loaded direction lent (before-at (negsuc 0) w b) (room (negsuc 0) r) (λ steps v. clash v (f steps)));
-        none-higher = λ w a e. Notes.decode-best loaded direction lent (outcome a) (decode-at (negsuc 0) w ∙ decoded a e);
-        only-13 = λ e. (keysEntered book direction (negsuc 0), entered-all book direction, small e);
-        never-13 = λ r e. never-13 loaded direction width lent (r .0) (r .1 .all-listed) (r .2) (turned StoreTooSmall e);
-        gives-13 = λ w b r. says StoreTooSmall (sym (decode-at (negsuc 0) w) ∙ always-13 loaded direction lent (r .0) (r .1 .different) (r .1 .are-reached) (r .2) (before-at (negsuc 0) w b));
-        best-of-last-set = λ a e. Notes.decode-last loaded direction width lent (outcome a) (decoded a e);
-        only-15 = λ e. Notes.decode-emptied loaded direction width lent (turned LastSetEmpty e);
-        answer-or-14 = λ w b r. answer-or (negsuc 0) w NoDerivation refl b (room (negsuc 0) r);
-        answer-or-15 = λ β w b r. answer-or (pos β) w LastSetEmpty refl b (room (pos β) r);
-        never-14 = λ β w e. Notes.width-never-14 loaded direction β lent (decode-at (pos β) w ∙ turned NoDerivation e);
+        demand1 = record {
+          taken = taken;
+          turned-down = turned-down;
+          steps-kept = λ refusal e. lists refusal e .0;
+          words-kept = λ refusal e. lists refusal e .1;
+          store-kept = λ refusal e h.
+              let b = Notes.refused-early loaded direction width lent (number refusal) h (turned refusal e) in
+              let n = number-from refusal in
+              store-same (omega arith);
+          store-cleared = λ refusal e h. store-zero (Notes.refused-late loaded direction width lent (number refusal) h (turned refusal e));
+          answered-cleared = λ r. store-zero (Notes.answered loaded direction width lent (outcome (r .0)) (decoded (r .0) (r .1)) .before);
+        };
+        demand2 = record {
+          valid-and-exact = λ a e. subst (λ (r : Decoded). ListsAfter book direction r steps₀ steps₁ words₀ words₁) e (D .lists-are);
+          states-entered = states-entered;
+          states-reachable = λ w a e keys r. states-entered a e ∙ ap (λ (v : ℤ). length (entered book direction v)) w ∙ entered-counted book direction keys r;
+        };
+        demand3 = record {
+          none-valid = λ w e steps. is-false (λ v. Notes.decode-none loaded direction lent (decode-at (negsuc 0) w ∙ turned NoDerivation e) steps v);
+          gives-14 = λ w b r f. says NoDerivation (sym (decode-at (negsuc 0) w) ∙ Notes.none-decode loaded direction lent (before-at (negsuc 0) w b) (room (negsuc 0) r) (λ steps v. clash v (f steps)));
+          none-higher = λ w a e. Notes.decode-best loaded direction lent (outcome a) (decode-at (negsuc 0) w ∙ decoded a e);
+          only-13 = λ e. (keysEntered book direction (negsuc 0), entered-all book direction, small e);
+          never-13 = λ r e. never-13 loaded direction width lent (r .0) (r .1 .all-listed) (r .2) (turned StoreTooSmall e);
+          gives-13 = λ w b r. says StoreTooSmall (sym (decode-at (negsuc 0) w) ∙ always-13 loaded direction lent (r .0) (r .1 .different) (r .1 .are-reached) (r .2) (before-at (negsuc 0) w b));
+          best-of-last-set = λ a e. Notes.decode-last loaded direction width lent (outcome a) (decoded a e);
+          only-15 = λ e. Notes.decode-emptied loaded direction width lent (turned LastSetEmpty e);
+          answer-or-14 = λ w b r. answer-or (negsuc 0) w NoDerivation refl b (room (negsuc 0) r);
+          answer-or-15 = λ β w b r. answer-or (pos β) w LastSetEmpty refl b (room (pos β) r);
+          never-14 = λ β w e. Notes.width-never-14 loaded direction β lent (decode-at (pos β) w ∙ turned NoDerivation e);
+        };
       }
 
 -- ════ a scoring

@@ -31,7 +31,7 @@ module _ (steps₀ steps₁ : List Step) (words₀ words₁ : List ℕ) (store�
       let e : decodedReply result ≡ done o = D .reply-is ∙ ap (λ (n : ℕ). decode loaded direction off (record { steps = length steps₀; words = length words₀; store = n })) m ∙ d in
       let r = done-result result o e in
       let s : r .0 .score ≡ o .score = same-score (r .0) o (ap decodedReply (sym (r .1)) ∙ e) in
-      let w = decode-demands loaded direction off steps₀ steps₁ words₀ words₁ store₀ store₁ result D .valid-and-exact (r .0) (r .1) in
+      let w = decode-demands loaded direction off steps₀ steps₁ words₀ words₁ store₀ store₁ result D .demand2 .valid-and-exact (r .0) (r .1) in
       record {
         answer = r .0;
         result-is = r .1;
