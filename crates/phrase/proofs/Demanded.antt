@@ -6,9 +6,11 @@ use mathlib.Core.Path.{_≡_, refl, sym, _∙_, ap, subst}
 use mathlib.Core.Logic.{_↔_, _⊎_, inl, inr, ⊎-elim}
 use mathlib.Core.Bool.{cond}
 use mathlib.Core.List.{List}
+use borrow.Author.Tests.{leb-true, leb-false}
+use lib.Dec.{leb}
 use lib.IntN.{ℤ, pos, negsuc}
 use lib.ListN.{length, replicate}
-use Rattle.laws.proofs.Tests.{is-false, clash}
+use Rattle.laws.proofs.Tests.{by-test, is-false, clash}
 use Rattle.notes.specs.Questions.{number}
 use Rattle.notes.specs.Book.{Book, bookOf}
 use Rattle.notes.specs.Derivation.{scoreOf}
@@ -47,6 +49,13 @@ cleared (suc k) store e = absurd (omega arith)
 kept : (k : ℕ) (store : List ℤ) → 1 ≤ k → clearedIf k store ≡ store
 kept zero store h = absurd (omega arith)
 kept (suc k) store h = refl
+
+-- a store of so many places has room for the states that can be reached, or is too small for them: the states entered with pruning off are these
+pub room-or-small : (book : Book) (direction : List ℕ) (places : ℕ)
+    → ((keys : List Key) × AreReachable book direction keys × (length keys ≤ places)) ⊎ ((keys : List Key) × AreReachable book direction keys × (places < length keys))
+room-or-small book direction places =
+    let keys = keysEntered book direction (negsuc 0) in
+    by-test (leb (length keys) places) (λ t. inl (keys, entered-all book direction, leb-true _ _ t)) (λ f. inr (keys, entered-all book direction, leb-false _ _ f))
 
 module _ (loaded : List ℤ) (direction : List ℕ) (width : ℤ) (steps₀ steps₁ : List Step) (words₀ words₁ : List ℕ) (store₀ store₁ : List ℤ) (result : Decoded)
     (D : Decodes loaded direction width steps₀ steps₁ words₀ words₁ store₀ store₁ result) where

@@ -1,5 +1,6 @@
 -- The three demands as statements, with no proof. proofs/Demanded.antt shows them from the contracts of `decode` and `score` alone, on every input
 -- and without any other condition: `decode-demands`, `score-demands`. That every call ends is part of what a contract means.
+-- The contracts of the other calls are equations with a definition: they are demand 1 as they stand.
 -- The definitions are those of crate notes; `negsuc 0` is −1, and the empty type ⊥ says "never".
 use Prim.Native.Nat.{ℕ, _/_, _≤_, _<_}
 use mathlib.Core.Path.{_≡_}
@@ -46,7 +47,7 @@ module _ (loaded : List ℤ) (direction : List ℕ) (width : ℤ) (steps₀ step
   abbrev Begins : Type 0
   Begins = beforeSearch loaded direction width lent ≡ 0
 
-  -- the store holds ("length / 8 rounded down") the states that the transitions can reach, or is too small for them: one of the two is so
+  -- the store holds ("length / 8 rounded down") the states that the transitions can reach, or is too small for them; one of the two is so (`room-or-small`)
   abbrev HasRoom : Type 0
   HasRoom = (keys : List Key) × AreReachable book direction keys × (length keys ≤ length store₀ / 8)
 
