@@ -39,12 +39,12 @@ lines-to lines =
     (chain-to _ _ 6 (test-to 4 (all isInRange lines) 6 (omega arith))
     (chain-to _ _ 6 (test-to 5 (isNotTooLong lines) 6 (omega arith)) (test-to 6 (isNoTripleTwice lines) 6 (omega arith)))))
 
--- a direction's number is 9 or 10
-numbers-number : (numbers : List ℤ) → numbersRefusal numbers ≤ 10
+-- no question of a direction has a number above 10
+numbers-at-most : (numbers : List ℤ) → numbersRefusal numbers ≤ 10
 unfolding numbersRefusal
-numbers-number numbers = chain-to _ _ 10 (test-to 9 (within 1 32 (length numbers)) 10 (omega arith)) (test-to 10 (all isWord numbers) 10 (omega arith))
+numbers-at-most numbers = chain-to _ _ 10 (test-to 9 (within 1 32 (length numbers)) 10 (omega arith)) (test-to 10 (all isWord numbers) 10 (omega arith))
 
--- that of proposed steps is 16 or more
+-- those of proposed steps have 16 or more
 steps-from : (book : Book) (direction : List ℕ) (k : Key) (steps : List Step) → (stepsRefusal book direction k steps ≡ 0) ⊎ (16 ≤ stepsRefusal book direction k steps)
 unfolding stepsRefusal
 steps-from book direction k [] = asks (all (λ bit. bit) (k .covered))
@@ -66,7 +66,7 @@ before-to : (loaded : List ℤ) (direction : List ℕ) (width : ℤ) (lent : Len
 unfolding beforeSearch bookRefusal directionRefusal
 before-to loaded direction width lent =
     let book-to : linesRefusal (loadedLines loaded) ≤ 12 = (let h = lines-to (loadedLines loaded) in omega arith) in
-    let direction-to-12 : numbersRefusal (map pos direction) ≤ 12 = (let h = numbers-number (map pos direction) in omega arith) in
+    let direction-to-12 : numbersRefusal (map pos direction) ≤ 12 = (let h = numbers-at-most (map pos direction) in omega arith) in
     chain-to _ _ 12 book-to
     (chain-to _ _ 12 direction-to-12
     (chain-to _ _ 12 (test-to 11 (leZ (negsuc 0) width) 12 (omega arith))
@@ -137,7 +137,7 @@ module _ (loaded : List ℤ) (direction : List ℕ) where
   refused-invalid steps k h e =
       let p : proposalRefusal loaded direction steps ≡ k = refused-is (proposalRefusal loaded direction steps) k (scoreOf book steps) e in
       let b : bookRefusal loaded ≤ 6 = lines-to (loadedLines loaded) in
-      let d : directionRefusal direction ≤ 10 = numbers-number (map pos direction) in
+      let d : directionRefusal direction ≤ 10 = numbers-at-most (map pos direction) in
       let s = skip (directionRefusal direction) _ k (λ z. omega arith) (skip (bookRefusal loaded) _ k (λ z. omega arith) p) in
       is-false (λ v. let z = proposal-valid book direction steps .1 v in omega arith)
 

@@ -1,4 +1,4 @@
--- The states of the search: the start, the steps that may extend a state, the state that a step leads to, equality.
+-- The states of the search: the start, the steps that may extend a state, the state that a step leads to, what can be reached, equality.
 use Prim.Native.Nat.{ℕ, suc, _+_, _*_}
 use mathlib.Core.Path.{_≡_}
 use mathlib.Core.Bool.{Bool, true, false, not, _&&_, _||_}
