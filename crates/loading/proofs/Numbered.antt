@@ -1,7 +1,9 @@
--- The number of a refusal is 1 to 19, and not 0, which is the number of none.
-use Prim.Native.Nat.{ℕ, zero, suc, _≤_}
+-- The number of a refusal is 1 to 19, and not 0, which is the number of none; different refusals have different numbers.
+use Prim.Native.Nat.{ℕ, zero, suc, _-_, _≤_}
 use native.Mathlib.Omega.{arith}
 use mathlib.Core.Path.{_≡_, refl, sym, _∙_, ap}
+use mathlib.Core.List.{[], _∷_}
+use lib.ListN.{getD}
 use Rattle.notes.specs.Questions.{_orelse_, number}
 use Rattle.notes.specs.Reply.{Reply, refused, reply}
 use Rattle.notes.specs.declared.Refusal.{Refusal}
@@ -49,6 +51,35 @@ number-to DoesNotFit = omega arith
 number-to CoveredTwice = omega arith
 number-to JumpTooLong = omega arith
 number-to Uncovered = omega arith
+
+-- the refusals by their numbers
+abbrev byNumber : ℕ → Refusal
+byNumber k = getD (BookText ∷ LineFields ∷ BLine ∷ NumberRange ∷ LineCount ∷ RepeatedTriple ∷ ListTooShort ∷ DirectionText ∷ WordCount ∷ WordRange ∷ Width ∷ StepsOrWordsTooShort ∷ StoreTooSmall ∷ NoDerivation ∷ LastSetEmpty ∷ DoesNotFit ∷ CoveredTwice ∷ JumpTooLong ∷ Uncovered ∷ []) (k - 1) BookText
+
+by-number : (refusal : Refusal) → byNumber (number refusal) ≡ refusal
+by-number BookText = refl
+by-number LineFields = refl
+by-number BLine = refl
+by-number NumberRange = refl
+by-number LineCount = refl
+by-number RepeatedTriple = refl
+by-number ListTooShort = refl
+by-number DirectionText = refl
+by-number WordCount = refl
+by-number WordRange = refl
+by-number Width = refl
+by-number StepsOrWordsTooShort = refl
+by-number StoreTooSmall = refl
+by-number NoDerivation = refl
+by-number LastSetEmpty = refl
+by-number DoesNotFit = refl
+by-number CoveredTwice = refl
+by-number JumpTooLong = refl
+by-number Uncovered = refl
+
+-- different refusals have different numbers
+pub number-same : (a b : Refusal) → number a ≡ number b → a ≡ b
+number-same a b e = sym (by-number a) ∙ ap byNumber e ∙ by-number b
 
 -- a question that refuses ends the chain
 pub refused-first : (k m : ℕ) → 1 ≤ k → k orelse m ≡ k

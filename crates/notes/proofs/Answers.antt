@@ -8,19 +8,18 @@ use mathlib.Core.List.{List, [], map, List·Memᴰ}
 use mathlib.Core.Option.{none, some}
 use lib.IntN.{ℤ, pos, negsuc, +ℤ-idr}
 use lib.Signed.{_≤ℤ_}
-use lib.ListN.{length}
 use Rattle.laws.specs.Integers.{Within}
 use Rattle.laws.specs.Lists.{Distinct}
 use Rattle.laws.proofs.Linear.{signed, sum}
 use Rattle.laws.proofs.Lists.{count-le}
 use Rattle.search_theory.specs.Search.{Problem, closed}
-use Rattle.search_theory.specs.Statements.{after, total, of, Allowed, Legal, Reachable}
+use Rattle.search_theory.specs.Statements.{after, total, of, Legal}
 use Rattle.search_theory.proofs.Sound.{set-mem, of-legal}
 use Rattle.search_theory.proofs.Theorems as Theory
 use Rattle.notes.specs.Book.{Book}
 use Rattle.notes.specs.Direction.{wordCount}
 use Rattle.notes.specs.Derivation.{isValid, targetWords, scoreOf, IsDerivation}
-use Rattle.notes.specs.State.{Key, Hyp, start, wordsCovered, isBetter, gainBound}
+use Rattle.notes.specs.State.{Hyp, start, wordsCovered, isBetter, gainBound}
 use Rattle.notes.specs.Search.{search, entered, lastSet, answer}
 use Rattle.notes.specs.declared.Step.{Step}
 use Rattle.notes.proofs.Scores.{total-score}
@@ -33,14 +32,10 @@ module _ (book : Book) (direction : List ℕ) (width : ℤ) where
   abbrev P : Problem
   P = search book direction width
 
-  legal : (q : Hyp) → List·Memᴰ q (entered book direction width) → Legal P q
+  -- each has steps that may extend the start state one after another, and their key and their score
+  pub legal : (q : Hyp) → List·Memᴰ q (entered book direction width) → Legal P q
   unfolding entered
   legal = Theory.sound P
-
-  -- each is reached: its steps may extend the start state one after another, and lead to its key
-  pub entered-reached : (q : Hyp) → List·Memᴰ q (entered book direction width)
-      → Allowed P (start (wordCount direction)) (q .steps) × (q .key ≡ after P (start (wordCount direction)) (q .steps))
-  entered-reached q m = (legal q m .allowed, legal q m .key-is)
 
   -- its score is the score of its steps
   pub entered-score : (q : Hyp) → List·Memᴰ q (entered book direction width) → q .score ≡ scoreOf book (q .steps)
@@ -139,13 +134,3 @@ module _ (book : Book) (direction : List ℕ) where
   none-valid e steps v =
       let a = valid-allowed book direction (negsuc 0) steps v in
       Theory.hopeless Off (steady book direction (negsuc 0)) (ranked book direction (negsuc 0)) (off-unpruned book direction) e steps (a .0) (a .1)
-
-  -- the states entered are those that the transitions can reach ..
-  pub entered-all : (k : Key) → List·Memᴰ k (map (λ (q : Hyp). q .key) (entered book direction (negsuc 0))) ↔ Reachable Off k
-  unfolding entered
-  entered-all = Theory.reached Off (steady book direction (negsuc 0)) (ranked book direction (negsuc 0)) (off-unpruned book direction)
-
-  -- .. and their number is the number of these, equal ones counted once
-  pub entered-counted : (ks : List Key) → Distinct ks → ((k : Key) → List·Memᴰ k ks ↔ Reachable Off k) → length (entered book direction (negsuc 0)) ≡ length ks
-  unfolding entered
-  entered-counted = Theory.counted Off (steady book direction (negsuc 0)) (ranked book direction (negsuc 0)) (off-unpruned book direction)

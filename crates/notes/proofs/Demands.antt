@@ -3,7 +3,7 @@ use Prim.Native.Nat.{ℕ, zero, suc, _*_, _/_, _≤_, _<_}
 use native.Mathlib.Omega.{arith}
 use mathlib.Core.Path.{_≡_, refl, sym, _∙_, ap, subst}
 use mathlib.Core.Logic.{_↔_, _⊎_, inl, inr, ⊎-elim}
-use mathlib.Core.Bool.{Bool, true, false, not, _&&_, _||_, true≢false, false≢true}
+use mathlib.Core.Bool.{Bool, true, false, not, cond, _&&_, _||_, true≢false, false≢true}
 use mathlib.Core.List.{List, [], _∷_, map, List·Memᴰ, List·Memᴰ·head}
 use mathlib.Core.Option.{Option, none, some}
 use borrow.Author.Tests.{leb-true, leb-false, le-leb, lt-leb, not-true}
@@ -13,15 +13,15 @@ use lib.Signed.{leZ, _≤ℤ_}
 use lib.ListN.{length, length-map}
 use Rattle.laws.specs.Integers.{Within}
 use Rattle.laws.specs.Lists.{all, isEmpty}
-use Rattle.laws.proofs.Tests.{by-test, both}
+use Rattle.laws.proofs.Tests.{by-test, both, is-false, clash}
 use Rattle.laws.proofs.Bounds.{within-mono}
 use Rattle.notes.specs.Questions.{_unless_, _orelse_, within}
 use Rattle.notes.specs.Book.{Book, bookOf, bookRefusal, linesRefusal, loadedLines, isWhole, isOneBFirst, isInRange, isNotTooLong, isNoTripleTwice, isWord}
 use Rattle.notes.specs.Direction.{wordCount, directionRefusal, numbersRefusal}
-use Rattle.notes.specs.Derivation.{IsDerivation, isValid, targetWords, scoreOf}
-use Rattle.notes.specs.State.{Hyp, scoreBound}
+use Rattle.notes.specs.Derivation.{IsDerivation, fits, jump, isValid, targetWords, scoreOf}
+use Rattle.notes.specs.State.{Key, Hyp, start, isFree, nextKey, scoreBound}
 use Rattle.notes.specs.Search.{isOff, entered, lastSet, answer}
-use Rattle.notes.specs.Reply.{refused, done, reply, Lent, Outcome, proposalRefusal, scoreProposal, beforeSearch, afterSearch, decodeRefusal, answerScore, decode}
+use Rattle.notes.specs.Reply.{refused, done, reply, Lent, Outcome, stepsRefusal, proposalRefusal, scoreProposal, beforeSearch, afterSearch, decodeRefusal, answerScore, decode}
 use Rattle.notes.specs.declared.Step.{Step}
 use Rattle.notes.proofs.Chains.{first-passes, rest-passes, test-passes, skip, chain-to, test-to, done-passes, done-is, refused-is, reply-refused}
 use Rattle.notes.proofs.Valid.{proposal-valid}
@@ -39,13 +39,36 @@ lines-to lines =
     (chain-to _ _ 6 (test-to 4 (all isInRange lines) 6 (omega arith))
     (chain-to _ _ 6 (test-to 5 (isNotTooLong lines) 6 (omega arith)) (test-to 6 (isNoTripleTwice lines) 6 (omega arith)))))
 
+-- no question of a direction has a number above 10
+numbers-at-most : (numbers : List ℤ) → numbersRefusal numbers ≤ 10
+unfolding numbersRefusal
+numbers-at-most numbers = chain-to _ _ 10 (test-to 9 (within 1 32 (length numbers)) 10 (omega arith)) (test-to 10 (all isWord numbers) 10 (omega arith))
+
+-- those of proposed steps have 16 or more
+steps-from : (book : Book) (direction : List ℕ) (k : Key) (steps : List Step) → (stepsRefusal book direction k steps ≡ 0) ⊎ (16 ≤ stepsRefusal book direction k steps)
+unfolding stepsRefusal
+steps-from book direction k [] = asks (all (λ bit. bit) (k .covered))
+  where
+    asks : (t : Bool) → (19 unless t ≡ 0) ⊎ (16 ≤ (19 unless t))
+    asks true = inl refl
+    asks false = inr (omega arith)
+steps-from book direction k (s ∷ ss) =
+    asks (fits book direction s) (isFree s 1 (k .covered)) (leb (jump (k .r) s) (book .limit)) (stepsRefusal book direction (nextKey book k s) ss) (steps-from book direction (nextKey book k s) ss)
+  where
+    asks : (f g j : Bool) (m : ℕ) → (m ≡ 0) ⊎ (16 ≤ m) → ((16 unless f orelse 17 unless g orelse 18 unless j orelse m) ≡ 0) ⊎ (16 ≤ (16 unless f orelse 17 unless g orelse 18 unless j orelse m))
+    asks true true true m r = r
+    asks true true false m r = inr (omega arith)
+    asks true false j m r = inr (omega arith)
+    asks false g j m r = inr (omega arith)
+
 -- no question before the search has a number above 12
 before-to : (loaded : List ℤ) (direction : List ℕ) (width : ℤ) (lent : Lent) → beforeSearch loaded direction width lent ≤ 12
-unfolding beforeSearch bookRefusal directionRefusal numbersRefusal
+unfolding beforeSearch bookRefusal directionRefusal
 before-to loaded direction width lent =
     let book-to : linesRefusal (loadedLines loaded) ≤ 12 = (let h = lines-to (loadedLines loaded) in omega arith) in
+    let direction-to-12 : numbersRefusal (map pos direction) ≤ 12 = (let h = numbers-at-most (map pos direction) in omega arith) in
     chain-to _ _ 12 book-to
-    (chain-to _ _ 12 (chain-to _ _ 12 (test-to 9 (within 1 32 (length (map pos direction))) 12 (omega arith)) (test-to 10 (all isWord (map pos direction)) 12 (omega arith)))
+    (chain-to _ _ 12 direction-to-12
     (chain-to _ _ 12 (test-to 11 (leZ (negsuc 0) width) 12 (omega arith))
     (test-to 12 (leb (wordCount direction) (lent .steps) && leb (8 * wordCount direction) (lent .words)) 12 (omega arith))))
 
@@ -64,6 +87,14 @@ direction-to direction e = omega (arith, numbers-to (map pos direction) e, lengt
 -- 13, 14 and 15 by what is asked: pruning is off, the store holds the states, the last set is empty
 abbrev after : Bool → Bool → Bool → ℕ
 after off fits empty = 13 unless fits orelse 14 unless (not off || not empty) orelse 15 unless not empty
+
+-- these are none or 13 to 15
+after-from : (off fits empty : Bool) → after off fits empty ≤ 12 → after off fits empty ≡ 0
+after-from off false empty h = absurd (omega arith)
+after-from true true true h = absurd (omega arith)
+after-from true true false h = refl
+after-from false true true h = absurd (omega arith)
+after-from false true false h = refl
 
 -- two searches that enter the same states and have the same answer differ at most in 15 for 14
 wide-by : (before : ℕ) (fits₁ fits₂ empty₁ empty₂ : Bool) (o₁ o₂ : Outcome) → (before ≡ 0 → (fits₁ ≡ fits₂) × (empty₁ ≡ empty₂) × (o₁ ≡ o₂))
@@ -99,6 +130,27 @@ module _ (loaded : List ℤ) (direction : List ℕ) where
       → scoreProposal loaded direction steps ≡ done (scoreOf book steps)
   unfolding scoreProposal proposalRefusal
   valid-scored b d steps v = rw (b, d, proposal-valid book direction steps .1 v)
+
+  -- a refusal from 16 on says that it is not valid: the book and the direction passed
+  pub refused-invalid : (steps : List Step) (k : ℕ) → 16 ≤ k → scoreProposal loaded direction steps ≡ refused k → isValid book direction steps ≡ false
+  unfolding scoreProposal proposalRefusal bookRefusal directionRefusal
+  refused-invalid steps k h e =
+      let p : proposalRefusal loaded direction steps ≡ k = refused-is (proposalRefusal loaded direction steps) k (scoreOf book steps) e in
+      let b : bookRefusal loaded ≤ 6 = lines-to (loadedLines loaded) in
+      let d : directionRefusal direction ≤ 10 = numbers-at-most (map pos direction) in
+      let s = skip (directionRefusal direction) _ k (λ z. omega arith) (skip (bookRefusal loaded) _ k (λ z. omega arith) p) in
+      is-false (λ v. let z = proposal-valid book direction steps .1 v in omega arith)
+
+  -- and one that is not valid gets such a refusal, where the book and the direction pass
+  pub invalid-refused : bookRefusal loaded ≡ 0 → directionRefusal direction ≡ 0 → (steps : List Step) → isValid book direction steps ≡ false
+      → (k : ℕ) × (16 ≤ k) × (scoreProposal loaded direction steps ≡ refused k)
+  unfolding scoreProposal proposalRefusal
+  invalid-refused b d steps v = rw (b, d) (by (stepsRefusal book direction (start (wordCount direction)) steps) (steps-from book direction (start (wordCount direction)) steps) (λ z. clash (proposal-valid book direction steps .0 z) v))
+    where
+      by : (j : ℕ) → (j ≡ 0) ⊎ (16 ≤ j) → (j ≡ 0 → ⊥) → (k : ℕ) × (16 ≤ k) × (reply j (scoreOf book steps) ≡ refused k)
+      by zero r n = absurd (n refl)
+      by (suc j) (inl z) n = absurd (n z)
+      by (suc j) (inr h) n = (suc j, h, refl)
 
   -- ════ "No score passes .. 298,240,000 on either side of 0.": neither a state's nor a valid derivation's
 
@@ -219,6 +271,51 @@ module _ (loaded : List ℤ) (direction : List ℕ) where
         by-zero : (j : ℕ) → beforeSearch loaded direction width lent ≡ j → j orelse afterSearch book direction width lent ≡ 13 → ⊥
         by-zero zero z k = let l = decode-full z .0 e in omega arith
         by-zero (suc j) z k = let t = before-to loaded direction width lent in omega arith
+
+    -- a refusal up to 12 is that of a question before the search ..
+    pub refused-early : (k : ℕ) → k ≤ 12 → decode loaded direction width lent ≡ refused k → beforeSearch loaded direction width lent ≡ k
+    unfolding decode decodeRefusal afterSearch
+    refused-early k h e =
+        by (beforeSearch loaded direction width lent) _ (after-from (isOff width) (leb (length (entered book direction width)) (lent .store / 8)) (isEmpty (lastSet book direction width)))
+        (refused-is (decodeRefusal loaded direction width lent) k _ e)
+      where
+        by : (j m : ℕ) → (m ≤ 12 → m ≡ 0) → j orelse m ≡ k → j ≡ k
+        by zero m f p = sym (f (omega arith)) ∙ p
+        by (suc j) m f p = p
+
+    -- .. and one from 13 on comes after it
+    pub refused-late : (k : ℕ) → 12 < k → decode loaded direction width lent ≡ refused k → beforeSearch loaded direction width lent ≡ 0
+    unfolding decode decodeRefusal
+    refused-late k h e = by (beforeSearch loaded direction width lent) (before-to loaded direction width lent) (refused-is (decodeRefusal loaded direction width lent) k _ e)
+      where
+        by : (j : ℕ) → j ≤ 12 → j orelse afterSearch book direction width lent ≡ k → j ≡ 0
+        by zero g p = refl
+        by (suc j) g p = absurd (omega arith)
+
+    -- where the store holds the states entered, there is an answer, or 14, or with a width 15
+    pub answer-or-none : beforeSearch loaded direction width lent ≡ 0 → length (entered book direction width) ≤ lent .store / 8
+        → ((a : Outcome) × (decode loaded direction width lent ≡ done a)) ⊎ (decode loaded direction width lent ≡ refused (cond (isOff width) 14 15))
+    unfolding decode decodeRefusal afterSearch
+    answer-or-none b h = rw (b, le-leb _ _ h) (by (isOff width) (isEmpty (lastSet book direction width)) _)
+      where
+        by : (o m : Bool) (a : Outcome) → ((a′ : Outcome) × (reply (14 unless (not o || not m) orelse 15 unless not m) a ≡ done a′)) ⊎ (reply (14 unless (not o || not m) orelse 15 unless not m) a ≡ refused (cond o 14 15))
+        by true true a = inr refl
+        by false true a = inr refl
+        by true false a = inl (a, refl)
+        by false false a = inl (a, refl)
+
+    -- "With a width, is set n not empty? No: 15."
+    pub decode-emptied : decode loaded direction width lent ≡ refused 15 → lastSet book direction width ≡ []
+    unfolding decode decodeRefusal afterSearch
+    decode-emptied e =
+        let k = skip (beforeSearch loaded direction width lent) _ 15 (λ z. let t = before-to loaded direction width lent in omega arith) (refused-is (decodeRefusal loaded direction width lent) 15 _ e) in
+        by (isOff width) (leb (length (entered book direction width)) (lent .store / 8)) (lastSet book direction width) k
+      where
+        by : (o s : Bool) (l : List Hyp) → after o s (isEmpty l) ≡ 15 → l ≡ []
+        by o s [] p = refl
+        by true true (q ∷ l) p = absurd (omega arith)
+        by false true (q ∷ l) p = absurd (omega arith)
+        by o false (q ∷ l) p = absurd (omega arith)
 
   -- ════ decoding with pruning off
 

@@ -13,4 +13,6 @@ pub mod Instance
 pub mod Answers
 pub mod Widths
 pub mod Demands
+pub mod Reach
 pub mod Rooms
+pub mod Only

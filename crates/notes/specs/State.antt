@@ -1,16 +1,17 @@
--- The states of the search: the start, the steps that may extend a state, the state that a step leads to, equality.
+-- The states of the search: the start, the steps that may extend a state, the state that a step leads to, what can be reached, equality.
 use Prim.Native.Nat.{ℕ, suc, _+_, _*_}
 use mathlib.Core.Path.{_≡_}
 use mathlib.Core.Bool.{Bool, true, false, not, _&&_, _||_}
-use mathlib.Core.List.{List, [], _∷_}
+use mathlib.Core.List.{List, [], _∷_, List·Memᴰ}
 use lib.Dec.{eqb, leb}
 use lib.IntN.{ℤ, pos, _+ℤ_, _*ℤ_}
 use lib.Signed.{ltZ}
 use lib.ListN.{replicate}
 use Rattle.laws.specs.Bits.{bitsOf}
-use Rattle.laws.specs.Lists.{count, eqList}
+use Rattle.laws.specs.Lists.{count, eqList, Distinct}
 use Rattle.search_theory.specs.Search.{Hypothesis}
 use Rattle.notes.specs.Book.{Book}
+use Rattle.notes.specs.Direction.{wordCount}
 use Rattle.notes.specs.Derivation.{entryAt, fits, covers, jump, wordsScore}
 use Rattle.notes.specs.declared.Step.{Step}
 use Rattle.notes.specs.declared.State.{State}
@@ -74,6 +75,17 @@ unfoldable pub nextKey : Book → Key → Step → Key
 nextKey book k step =
     let two = lastTwo (k .word1) (k .word2) (entryAt book (step .entry) .target) in
     record { word1 = two .0; word2 = two .1; covered = cover step 1 (k .covered); r = step .last }
+
+-- "The states that the transitions can reach are the start state and every one that such steps, one after another, lead to from it"
+pub data Reaches (book : Book) (direction : List ℕ) : Key → Type 0 where
+  at-start : Reaches book direction (start (wordCount direction))
+  by-step : (k : Key) (step : Step) → Reaches book direction k → mayExtend book direction k step ≡ true → Reaches book direction (nextKey book k step)
+
+-- the list of them, "equal ones counted once"
+pub record AreReachable (book : Book) (direction : List ℕ) (keys : List Key) : Type 0 where
+  pub different : Distinct keys
+  pub are-reached : (k : Key) → List·Memᴰ k keys → Reaches book direction k
+  pub all-listed : (k : Key) → Reaches book direction k → List·Memᴰ k keys
 
 -- "to the score come the entry's g, eta × jump and the scores of the triples that the entry's target words end"
 unfoldable pub gain : Book → Key → Step → ℤ

@@ -1,22 +1,61 @@
--- The demands on a decode in their own words, from the contract of `decode` alone: whoever meets that contract meets them.
-use Prim.Native.Nat.{ℕ, _/_, _≤_, _<_}
-use mathlib.Core.Path.{_≡_, sym, _∙_, ap, subst}
-use mathlib.Core.Bool.{true}
-use mathlib.Core.List.{List, List·Memᴰ}
-use lib.IntN.{ℤ, negsuc}
-use lib.Signed.{_≤ℤ_}
-use lib.ListN.{length}
+-- The demands of specs/Demands, from the contracts of `decode` and of `score` alone: whoever meets those contracts meets them.
+use Prim.Native.Nat.{ℕ, zero, suc, _/_, _≤_, _<_}
+use native.Mathlib.Omega.{arith}
+use native.Mathlib.Nat.{le-trans}
+use mathlib.Core.Path.{_≡_, refl, sym, _∙_, ap, subst}
+use mathlib.Core.Logic.{_↔_, _⊎_, inl, inr, ⊎-elim}
+use mathlib.Core.Bool.{cond}
+use mathlib.Core.List.{List}
+use borrow.Author.Tests.{leb-true, leb-false}
+use lib.Dec.{leb}
+use lib.IntN.{ℤ, pos, negsuc}
+use lib.ListN.{length, replicate}
+use Rattle.laws.proofs.Tests.{by-test, is-false, clash}
+use Rattle.notes.specs.Questions.{number}
 use Rattle.notes.specs.Book.{Book, bookOf}
-use Rattle.notes.specs.Derivation.{isValid, scoreOf}
-use Rattle.notes.specs.State.{Hyp}
-use Rattle.notes.specs.Search.{entered, lastSet}
-use Rattle.notes.specs.Reply.{refused, done, Lent, Outcome, beforeSearch, decode, decodedReply, Written, ListsAfter, Decodes}
+use Rattle.notes.specs.Derivation.{scoreOf}
+use Rattle.notes.specs.State.{Key, AreReachable}
+use Rattle.notes.specs.Search.{isOff, entered}
+use Rattle.notes.specs.Reply.{Reply, refused, done, Lent, Outcome, proposalRefusal, scoreProposal, scoredReply, beforeSearch, decodeRefusal, decode, decodedReply, clearedIf, decodedStore, ListsAfter, Decodes}
 use Rattle.notes.specs.declared.Answer.{Answer}
 use Rattle.notes.specs.declared.Decoded.{Decoded}
 use Rattle.notes.specs.declared.Decoded.the-variants.{Done, Refused}
-use Rattle.notes.specs.declared.Refusal.the-variants.{StoreTooSmall, NoDerivation}
+use Rattle.notes.specs.declared.Scored.{Scored}
+use Rattle.notes.specs.declared.Scored.the-variants.{Score, Refused as ScoreRefused}
+use Rattle.notes.specs.declared.Refusal.{Refusal}
+use Rattle.notes.specs.declared.Refusal.the-variants.{StoreTooSmall, NoDerivation, LastSetEmpty}
 use Rattle.notes.specs.declared.Step.{Step}
-use Rattle.notes.proofs.Demands.{decode-last, decode-states, decode-full, never-full, decode-best, decode-none}
+use Rattle.notes.proofs.Chains.{done-passes, refused-is, reply-done}
+use Rattle.notes.proofs.Demands as Notes
+use Rattle.notes.proofs.Reach.{keysEntered, entered-all, entered-few, entered-counted, never-13, always-13}
+use Rattle.reading.proofs.Numbered.{number-from, number-same, refused-reply}
+use Rattle.phrase.specs.Demands.{DecodeDemands, ScoreDemands}
+
+-- ════ a decode
+
+-- its result by its reply
+refused-result : (result : Decoded) (refusal : Refusal) → decodedReply result ≡ refused (number refusal) → result ≡ Refused refusal
+refused-result (Done a) refusal e = let z : _≡_ {A = ℕ} 0 1 = cc in absurd (omega arith)
+refused-result (Refused r) refusal e = let z : number r ≡ number refusal = cc in ap Refused (number-same r refusal z)
+
+pub done-result : (result : Decoded) (o : Outcome) → decodedReply result ≡ done o → (a : Answer) × (result ≡ Done a)
+done-result (Done a) o e = (a, refl)
+done-result (Refused r) o e = let z : _≡_ {A = ℕ} 0 1 = cc in absurd (omega arith)
+
+cleared : (k : ℕ) (store : List ℤ) → k ≡ 0 → clearedIf k store ≡ replicate (length store) (pos 0)
+cleared zero store e = refl
+cleared (suc k) store e = absurd (omega arith)
+
+kept : (k : ℕ) (store : List ℤ) → 1 ≤ k → clearedIf k store ≡ store
+kept zero store h = absurd (omega arith)
+kept (suc k) store h = refl
+
+-- a store of so many places has room for the states that can be reached, or is too small for them: the states entered with pruning off are these
+pub room-or-small : (book : Book) (direction : List ℕ) (places : ℕ)
+    → ((keys : List Key) × AreReachable book direction keys × (length keys ≤ places)) ⊎ ((keys : List Key) × AreReachable book direction keys × (places < length keys))
+room-or-small book direction places =
+    let keys = keysEntered book direction (negsuc 0) in
+    by-test (leb (length keys) places) (λ t. inl (keys, entered-all book direction, leb-true _ _ t)) (λ f. inr (keys, entered-all book direction, leb-false _ _ f))
 
 module _ (loaded : List ℤ) (direction : List ℕ) (width : ℤ) (steps₀ steps₁ : List Step) (words₀ words₁ : List ℕ) (store₀ store₁ : List ℤ) (result : Decoded)
     (D : Decodes loaded direction width steps₀ steps₁ words₀ words₁ store₀ store₁ result) where
@@ -29,33 +68,135 @@ module _ (loaded : List ℤ) (direction : List ℕ) (width : ℤ) (steps₀ step
   abbrev outcome : Answer → Outcome
   outcome a = record { score = a .score; states = a .states }
 
-  decoded : {a : Answer} → result ≡ Done a → decode loaded direction width lent ≡ done (outcome a)
-  decoded e = sym (D .reply-is) ∙ ap decodedReply e
+  decoded : (a : Answer) → result ≡ Done a → decode loaded direction width lent ≡ done (outcome a)
+  decoded a e = sym (D .reply-is) ∙ ap decodedReply e
 
-  -- "What is handed back is a valid derivation as Collins' notes define it, with its score to the last unit", and the words are its words
-  pub valid-and-exact : {a : Answer} → result ≡ Done a → Written book direction (a .score) (a .steps) (a .words) steps₀ steps₁ words₀ words₁
-  valid-and-exact e = subst (λ (r : Decoded). ListsAfter book direction r steps₀ steps₁ words₀ words₁) e (D .lists-are)
+  turned : (refusal : Refusal) → result ≡ Refused refusal → decode loaded direction width lent ≡ refused (number refusal)
+  turned refusal e = sym (D .reply-is) ∙ ap decodedReply e
 
-  -- the number of states is that of the states entered
-  pub states-entered : {a : Answer} → result ≡ Done a → a .states ≡ length (entered book direction width)
-  states-entered {a} e = decode-states loaded direction width lent (outcome a) (decoded e)
+  lists : (refusal : Refusal) → result ≡ Refused refusal → (steps₁ ≡ steps₀) × (words₁ ≡ words₀)
+  lists refusal e = subst (λ (r : Decoded). ListsAfter book direction r steps₀ steps₁ words₀ words₁) e (D .lists-are)
 
-  -- "With a width: valid, exact, and the best of the last set."
-  pub best-of-last-set : {a : Answer} → result ≡ Done a → (q : Hyp) → List·Memᴰ q (lastSet book direction width) → q .score ≤ℤ a .score
-  best-of-last-set {a} e = decode-last loaded direction width lent (outcome a) (decoded e)
+  store-zero : beforeSearch loaded direction width lent ≡ 0 → store₁ ≡ replicate (length store₀) (pos 0)
+  unfolding decodedStore
+  store-zero b = D .store-is ∙ cleared (beforeSearch loaded direction width lent) store₀ b
 
-  -- "13 only when the store is too small for the states entered"
-  pub store-too-small : result ≡ Refused StoreTooSmall → length (entered book direction width) ≤ length store₀ / 8 → ⊥
-  store-too-small e h = never-full loaded direction width lent h (sym (D .reply-is) ∙ ap decodedReply e)
+  store-same : 1 ≤ beforeSearch loaded direction width lent → store₁ ≡ store₀
+  unfolding decodedStore
+  store-same h = D .store-is ∙ kept (beforeSearch loaded direction width lent) store₀ h
 
--- "With pruning off, 14 means that no valid derivation exists; otherwise no valid derivation scores higher"
-module _ (loaded : List ℤ) (direction : List ℕ) (steps₀ steps₁ : List Step) (words₀ words₁ : List ℕ) (store₀ store₁ : List ℤ) (result : Decoded)
-    (D : Decodes loaded direction (negsuc 0) steps₀ steps₁ words₀ words₁ store₀ store₁ result) where
-  abbrev lent′ : Lent
-  lent′ = record { steps = length steps₀; words = length words₀; store = length store₀ }
+  -- where a refusal, or none, is the definitions', it is the result's
+  says : (refusal : Refusal) → decode loaded direction width lent ≡ refused (number refusal) → result ≡ Refused refusal
+  says refusal e = refused-result result refusal (D .reply-is ∙ e)
 
-  pub none-higher : {a : Answer} → result ≡ Done a → (steps : List Step) → isValid (bookOf loaded) direction steps ≡ true → scoreOf (bookOf loaded) steps ≤ℤ a .score
-  none-higher {a} e = decode-best loaded direction lent′ (record { score = a .score; states = a .states }) (sym (D .reply-is) ∙ ap decodedReply e)
+  answers : (o : Outcome) → decode loaded direction width lent ≡ done o → (a : Answer) × (result ≡ Done a)
+  answers o e = done-result result o (D .reply-is ∙ e)
 
-  pub none-exists : result ≡ Refused NoDerivation → (steps : List Step) → isValid (bookOf loaded) direction steps ≡ true → ⊥
-  none-exists e = decode-none loaded direction lent′ (sym (D .reply-is) ∙ ap decodedReply e)
+  taken : (decodeRefusal loaded direction width lent ≡ 0) ↔ ((a : Answer) × (result ≡ Done a))
+  unfolding decode
+  taken = (λ z. answers _ (reply-done (decodeRefusal loaded direction width lent) _ z), λ r. done-passes (decodeRefusal loaded direction width lent) _ (outcome (r .0)) (decoded (r .0) (r .1)))
+
+  turned-down : (refusal : Refusal) → (decodeRefusal loaded direction width lent ≡ number refusal) ↔ (result ≡ Refused refusal)
+  unfolding decode
+  turned-down refusal = (
+    λ z. says refusal (sym (refused-reply refusal (decodeRefusal loaded direction width lent) _ z)),
+    λ e. refused-is (decodeRefusal loaded direction width lent) (number refusal) _ (turned refusal e),
+  )
+
+  -- the same width by another name
+  decode-at : (v : ℤ) → width ≡ v → decode loaded direction v lent ≡ decode loaded direction width lent
+  decode-at v w = ap (λ (x : ℤ). decode loaded direction x lent) (sym w)
+
+  before-at : (v : ℤ) → width ≡ v → beforeSearch loaded direction width lent ≡ 0 → beforeSearch loaded direction v lent ≡ 0
+  before-at v w b = ap (λ (x : ℤ). beforeSearch loaded direction x lent) (sym w) ∙ b
+
+  -- with room for the states that can be reached there is room for those entered ..
+  room : (v : ℤ) → (keys : List Key) × AreReachable book direction keys × (length keys ≤ length store₀ / 8) → length (entered book direction v) ≤ length store₀ / 8
+  room v r = le-trans (entered-few book direction v (r .0) (r .1 .all-listed)) (r .2)
+
+  -- .. and a store that is too small for those entered is too small for all of them
+  small : result ≡ Refused StoreTooSmall → length store₀ / 8 < length (keysEntered book direction (negsuc 0))
+  small e =
+      let t = turned StoreTooSmall e in
+      let h = Notes.decode-full loaded direction width lent (Notes.refused-late loaded direction width lent 13 (omega arith) t) .0 t in
+      le-trans h (entered-few book direction width (keysEntered book direction (negsuc 0)) (entered-all book direction .all-listed))
+
+  -- an answer, or the refusal for an empty last set, with the width v
+  answer-or : (v : ℤ) → width ≡ v → (refusal : Refusal) → number refusal ≡ cond (isOff v) 14 15 → beforeSearch loaded direction width lent ≡ 0
+      → length (entered book direction v) ≤ length store₀ / 8 → ((a : Answer) × (result ≡ Done a)) ⊎ (result ≡ Refused refusal)
+  answer-or v w refusal n b h =
+      ⊎-elim
+      (λ o. inl (answers (o .0) (sym (decode-at v w) ∙ o .1)))
+      (λ e. inr (says refusal (sym (decode-at v w) ∙ e ∙ ap {B = Reply Outcome} refused (sym n))))
+      (Notes.answer-or-none loaded direction v lent (before-at v w b) h)
+
+  states-entered : (a : Answer) → result ≡ Done a → a .states ≡ length (entered book direction width)
+  states-entered a e = Notes.decode-states loaded direction width lent (outcome a) (decoded a e)
+
+  pub decode-demands : DecodeDemands loaded direction width steps₀ steps₁ words₀ words₁ store₀ store₁ result
+  decode-demands =
+      record {
+        demand1 = record {
+          taken = taken;
+          turned-down = turned-down;
+          steps-kept = λ refusal e. lists refusal e .0;
+          words-kept = λ refusal e. lists refusal e .1;
+          store-kept = λ refusal e h.
+              let b = Notes.refused-early loaded direction width lent (number refusal) h (turned refusal e) in
+              let n = number-from refusal in
+              store-same (omega arith);
+          store-cleared = λ refusal e h. store-zero (Notes.refused-late loaded direction width lent (number refusal) h (turned refusal e));
+          answered-cleared = λ r. store-zero (Notes.answered loaded direction width lent (outcome (r .0)) (decoded (r .0) (r .1)) .before);
+        };
+        demand2 = record {
+          valid-and-exact = λ a e. subst (λ (r : Decoded). ListsAfter book direction r steps₀ steps₁ words₀ words₁) e (D .lists-are);
+          states-entered = states-entered;
+          states-reachable = λ w a e keys r. states-entered a e ∙ ap (λ (v : ℤ). length (entered book direction v)) w ∙ entered-counted book direction keys r;
+        };
+        demand3 = record {
+          none-valid = λ w e steps. is-false (λ v. Notes.decode-none loaded direction lent (decode-at (negsuc 0) w ∙ turned NoDerivation e) steps v);
+          gives-14 = λ w b r f. says NoDerivation (sym (decode-at (negsuc 0) w) ∙ Notes.none-decode loaded direction lent (before-at (negsuc 0) w b) (room (negsuc 0) r) (λ steps v. clash v (f steps)));
+          none-higher = λ w a e. Notes.decode-best loaded direction lent (outcome a) (decode-at (negsuc 0) w ∙ decoded a e);
+          only-13 = λ e. (keysEntered book direction (negsuc 0), entered-all book direction, small e);
+          never-13 = λ r e. never-13 loaded direction width lent (r .0) (r .1 .all-listed) (r .2) (turned StoreTooSmall e);
+          gives-13 = λ w b r. says StoreTooSmall (sym (decode-at (negsuc 0) w) ∙ always-13 loaded direction lent (r .0) (r .1 .different) (r .1 .are-reached) (r .2) (before-at (negsuc 0) w b));
+          best-of-last-set = λ a e. Notes.decode-last loaded direction width lent (outcome a) (decoded a e);
+          only-15 = λ e. Notes.decode-emptied loaded direction width lent (turned LastSetEmpty e);
+          answer-or-14 = λ w b r. answer-or (negsuc 0) w NoDerivation refl b (room (negsuc 0) r);
+          answer-or-15 = λ β w b r. answer-or (pos β) w LastSetEmpty refl b (room (pos β) r);
+          never-14 = λ β w e. Notes.width-never-14 loaded direction β lent (decode-at (pos β) w ∙ turned NoDerivation e);
+        };
+      }
+
+-- ════ a scoring
+
+refused-scored : (result : Scored) (k : ℕ) → scoredReply result ≡ refused k → (refusal : Refusal) × (result ≡ ScoreRefused refusal) × (number refusal ≡ k)
+refused-scored (Score z) k e = let c : _≡_ {A = ℕ} 0 1 = cc in absurd (omega arith)
+refused-scored (ScoreRefused r) k e = (r, refl, cc)
+
+done-scored : (result : Scored) (z : ℤ) → scoredReply result ≡ done z → result ≡ Score z
+done-scored (Score y) z e = let c : y ≡ z = cc in ap Score c
+done-scored (ScoreRefused r) z e = let c : _≡_ {A = ℕ} 0 1 = cc in absurd (omega arith)
+
+module _ (loaded : List ℤ) (direction : List ℕ) (steps : List Step) (result : Scored) (E : scoredReply result ≡ scoreProposal loaded direction steps) where
+  turned-down′ : (refusal : Refusal) → (proposalRefusal loaded direction steps ≡ number refusal) ↔ (result ≡ ScoreRefused refusal)
+  unfolding scoreProposal
+  turned-down′ refusal = (
+    λ z.
+        let r = refused-scored result (number refusal) (E ∙ sym (refused-reply refusal (proposalRefusal loaded direction steps) _ z)) in
+        r .1 ∙ ap ScoreRefused (number-same (r .0) refusal (r .2)),
+    λ e. refused-is (proposalRefusal loaded direction steps) (number refusal) _ (sym E ∙ ap scoredReply e),
+  )
+
+  pub score-demands : ScoreDemands loaded direction steps result
+  score-demands =
+      record {
+        turned-down = turned-down′;
+        scored-valid = λ z e. let d = Notes.scored-valid loaded direction steps z (sym E ∙ ap scoredReply e) in (d .steps-valid, d .steps-score);
+        valid-scored = λ b d v. done-scored result (scoreOf (bookOf loaded) steps) (E ∙ Notes.valid-scored loaded direction b d steps v);
+        refused-invalid = λ refusal e h. Notes.refused-invalid loaded direction steps (number refusal) h (sym E ∙ ap scoredReply e);
+        invalid-refused = λ b d v.
+            let k = Notes.invalid-refused loaded direction b d steps v in
+            let r = refused-scored result (k .0) (E ∙ k .2) in
+            (r .0, r .1, (let h = k .1 in let n = r .2 in omega arith));
+      }

@@ -1,2 +1,3 @@
 pub mod Demanded
+pub mod Drawers
 pub mod Front
