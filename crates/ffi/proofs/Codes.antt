@@ -18,7 +18,7 @@ use Rattle.laws.specs.Integers.{natOf}
 use Rattle.notes.specs.declared.Read.{Read}
 use Rattle.notes.specs.declared.Read.the-variants.{Numbers, Refused}
 use Rattle.notes.proofs.Chains.{test-passes, rest-passes, done-passes, done-is}
-use Rattle.loading.proofs.Numbered.{number-to}
+use Rattle.notes.proofs.Numbered.{number-to}
 use Rattle.ffi.specs.Bounds.{Counted}
 use Rattle.notes.specs.Questions.{_unless_, number}
 use Rattle.notes.specs.declared.Refusal.{Refusal}

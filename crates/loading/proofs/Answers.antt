@@ -25,7 +25,7 @@ use Rattle.book.specs.Loaded.{SurveyOf}
 use Rattle.book.proofs.Counts.{survey-ps, survey-ts, survey-refusal}
 use Rattle.book.proofs.Triples.{grams-long, grams-hold}
 use Rattle.loading.specs.Loaded.{WholeAs, SurveyIs, Ready}
-use Rattle.loading.proofs.Numbered.{number-from, refused-first}
+use Rattle.notes.proofs.Numbered.{number-from, refused-first}
 
 -- ════ questions 3 to 5
 

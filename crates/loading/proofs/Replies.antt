@@ -17,7 +17,7 @@ use Rattle.notes.proofs.Chains.{reply-done, done-passes, refused-is}
 use Rattle.loading.specs.Loaded.{Answered, refusalOf, replied}
 use Rattle.loading.specs.declared.load.Loaded.{Loaded}
 use Rattle.loading.specs.declared.load.Loaded.the-variants.{Book as Passes, Refused}
-use Rattle.loading.proofs.Numbered.{number-from, refused-reply}
+use Rattle.notes.proofs.Numbered.{number-from, refused-reply}
 
 -- ════ the reply
 

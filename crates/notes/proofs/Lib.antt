@@ -16,3 +16,4 @@ pub mod Demands
 pub mod Reach
 pub mod Rooms
 pub mod Only
+pub mod Numbered

@@ -1,4 +1,3 @@
--- The meaning of document 01, in the order in which it is best read.
 pub mod Questions
 pub mod Numerals
 pub mod Book

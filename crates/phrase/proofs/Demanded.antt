@@ -28,7 +28,7 @@ use Rattle.notes.specs.declared.Step.{Step}
 use Rattle.notes.proofs.Chains.{done-passes, refused-is, reply-done}
 use Rattle.notes.proofs.Demands as Notes
 use Rattle.notes.proofs.Reach.{keysEntered, entered-all, entered-few, entered-counted, never-13, always-13}
-use Rattle.reading.proofs.Numbered.{number-from, number-same, refused-reply}
+use Rattle.notes.proofs.Numbered.{number-from, number-same, refused-reply}
 use Rattle.phrase.specs.Demands.{DecodeDemands, ScoreDemands}
 
 -- ════ a decode

@@ -14,7 +14,7 @@ use Rattle.notes.specs.State.{start}
 use Rattle.notes.specs.Reply.{Reply, refused, reply, stepsRefusal, proposalRefusal, scoreProposal}
 use Rattle.notes.specs.declared.Step.{Step}
 use Rattle.notes.specs.declared.Refusal.{Refusal}
-use Rattle.loading.proofs.Numbered.{refused-before-all, refused-reply}
+use Rattle.notes.proofs.Numbered.{refused-before-all, refused-reply}
 use Rattle.proposal.specs.Proposal.{stepIn, stepsIn}
 use Rattle.records.specs.declared.Plain.{Plain}
 use Rattle.records.specs.Plain.{stepIn as recordIn, stepsTo, stepsOf}

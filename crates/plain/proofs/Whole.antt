@@ -10,7 +10,7 @@ use Rattle.notes.specs.Book.{bookRefusal, bookOf}
 use Rattle.notes.specs.Direction.{directionRefusal}
 use Rattle.notes.specs.Reply.{refused, Lent, beforeSearch, afterSearch, decodeRefusal, decode, clearedIf, decodedStore}
 use Rattle.notes.specs.declared.Refusal.{Refusal}
-use Rattle.loading.proofs.Numbered.{number-from, refused-first, refused-before-all, refused-reply}
+use Rattle.notes.proofs.Numbered.{number-from, refused-first, refused-before-all, refused-reply}
 use Rattle.decoder.specs.Core.{refusedBy, CoreDecodes}
 use Rattle.answer.specs.declared.Core.{Core}
 use Rattle.decoder.proofs.Replies.{refuses}

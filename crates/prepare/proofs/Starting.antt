@@ -20,7 +20,7 @@ use Rattle.book.specs.Loaded.{sizeAt}
 use Rattle.book.specs.Entries.{EntriesAt}
 use Rattle.book.proofs.Cuts.{LineAt, line-here, line-number, lines-end}
 use Rattle.loading.specs.Loaded.{Ready}
-use Rattle.loading.proofs.Numbered.{number-from, refused-first}
+use Rattle.notes.proofs.Numbered.{number-from, refused-first}
 use Rattle.derivation.specs.declared.Task.{Task}
 use Rattle.derivation.specs.Model.{Model, modelScore}
 use Rattle.prepare.specs.declared.Start.{Start}

@@ -16,7 +16,7 @@ use Rattle.notes.specs.declared.Read.{Read}
 use Rattle.notes.specs.declared.Read.the-variants.{Refused}
 use Rattle.notes.proofs.Chains.{first-passes, rest-passes, test-passes, refused-is}
 use Rattle.reading.specs.Text.{textRefusal}
-use Rattle.loading.proofs.Numbered.{number-from, refused-before-all, refused-reply}
+use Rattle.notes.proofs.Numbered.{number-from, refused-before-all, refused-reply}
 
 module _ (t : List ℕ) (places : ℕ) where
   -- questions 1 to 6 refuse

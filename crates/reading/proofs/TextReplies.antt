@@ -11,7 +11,7 @@ use Rattle.notes.proofs.Chains.{reply-done}
 use Rattle.loading.specs.Loaded.{Answered}
 use Rattle.loading.specs.declared.load.Loaded.{Loaded}
 use Rattle.loading.specs.declared.load.Loaded.the-variants.{Book as Passes, Refused}
-use Rattle.loading.proofs.Numbered.{refused-reply}
+use Rattle.notes.proofs.Numbered.{refused-reply}
 use Rattle.reading.specs.Text.{textRefusal, countedAs}
 
 -- the reply of a text, with the count of its numbers

@@ -24,7 +24,7 @@ use Rattle.notes.proofs.Chains.{done-passes, done-is, refused-is}
 use Rattle.notes.proofs.Demands.{numbers-to, direction-to}
 use Rattle.notes.proofs.Rooms.{read-room, direction-room, decode-room}
 use Rattle.text.proofs.Numbers.{numbers-few}
-use Rattle.loading.proofs.Numbered.{number-from}
+use Rattle.notes.proofs.Numbered.{number-from}
 use Rattle.rendering.specs.Parts.{decodeOff, PrintsRead}
 
 -- ════ a text that was read into a list

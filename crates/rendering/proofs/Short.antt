@@ -10,7 +10,7 @@ use Rattle.notes.specs.Questions.{number}
 use Rattle.notes.specs.Render.{printedRefusal}
 use Rattle.notes.specs.declared.Answer.{Answer}
 use Rattle.notes.specs.declared.Refusal.{Refusal}
-use Rattle.loading.proofs.Numbered.{number-to}
+use Rattle.notes.proofs.Numbered.{number-to}
 use Rattle.records.proofs.Laws.{count-steps}
 use Rattle.records.specs.Plain.{stepsOf}
 use Rattle.printing.specs.Lines.{outcomeOf, plainOf}

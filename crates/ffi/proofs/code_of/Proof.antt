@@ -4,7 +4,7 @@ use mathlib.Core.Path.{ap, _∙_}
 use lib.IntN.{pos}
 use mir.Syntax.{w32}
 use Rattle.laws.proofs.Got.{nat}
-use Rattle.loading.proofs.Numbered.{number-to}
+use Rattle.notes.proofs.Numbered.{number-to}
 use borrow.Author.Needs.{needs}
 use Rattle.ffi.proofs.code_of.Statement.{statement}
 use Rattle.ffi.proofs.code_of.Tie as tie

@@ -7,7 +7,7 @@ use Rattle.notes.specs.Reply.{readReply}
 use Rattle.notes.specs.declared.Read.{Read}
 use Rattle.ffi.specs.Bounds.{Counted}
 use Rattle.ffi.specs.Calls.{countOrRefusal}
-use Rattle.loading.proofs.Numbered.{number-to}
+use Rattle.notes.proofs.Numbered.{number-to}
 use Rattle.lists.proofs.Reports.{as64}
 use Rattle.ffi.proofs.Codes.{minus-fits, minus-is}
 use borrow.Author.Needs.{needs}

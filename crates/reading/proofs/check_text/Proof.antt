@@ -3,7 +3,7 @@ use mathlib.Core.Path.{ap, _∙_}
 use Rattle.notes.specs.Book.{textLines}
 use Rattle.notes.specs.Reply.{readReply}
 use Rattle.reading.specs.Text.{textRefusal}
-use Rattle.loading.proofs.Numbered.{refused-reply}
+use Rattle.notes.proofs.Numbered.{refused-reply}
 use Rattle.reading.proofs.TextReplies.{answer-counted}
 use borrow.Author.Needs.{needs}
 use Rattle.reading.proofs.check_text.Statement.{statement}
