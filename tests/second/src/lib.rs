@@ -4,6 +4,7 @@
 use std::collections::HashMap;
 
 pub mod campaign;
+pub mod cases;
 pub mod gen;
 pub mod plain;
 
