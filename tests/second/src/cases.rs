@@ -314,13 +314,27 @@ fn by_rule(case: &DecodeCase, answer: &Answer, printed: &[Step]) -> Option<Answe
     })
 }
 
+/// A printed line that is what it should be.
+pub struct Held {
+    pub said: Said,
+    /// Several derivations share the top score (looked for where there are few derivations).
+    pub shared: bool,
+    /// The steps are others than the second decoder's.
+    pub others: bool,
+}
+
 /// Holds a printed line to the second decoder: word for word, but for the steps and words of a decode, which are held to the rule.
-/// What was said, and whether the steps are others than the second decoder's; or what the line was to be.
-pub fn held(line: &str, printed: &str) -> Result<(Said, bool), String> {
+/// Where it is not so, what the second decoder says.
+pub fn held(line: &str, printed: &str) -> Result<Held, String> {
     let said = line_said(line);
     if said.call != "decode" || said.code != 0 {
+        let (shared, others) = (false, false);
         return match said.text == printed {
-            true => Ok((said, false)),
+            true => Ok(Held {
+                said,
+                shared,
+                others,
+            }),
             false => Err(said.text),
         };
     }
@@ -329,17 +343,20 @@ pub fn held(line: &str, printed: &str) -> Result<(Said, bool), String> {
     case.number::<u8>();
     let (asked, fill) = (case.decode(), case.number());
     let answer = asked.answer().expect("an answer");
-    let other = printed_steps(printed, fill).and_then(|steps| by_rule(&asked, &answer, &steps));
-    match other {
-        Some(other)
-            if printed
-                == format!(
-                    "{label}: {}",
-                    decoded(&asked, fill, &Ok(other.clone())).text
-                ) =>
-        {
-            Ok((said, other.steps != answer.steps))
-        }
-        _ => Err(said.text),
+    let given = printed_steps(printed, fill).and_then(|steps| by_rule(&asked, &answer, &steps));
+    let Some(given) = given else {
+        return Err(said.text);
+    };
+    let others = given.steps != answer.steps;
+    if printed != format!("{label}: {}", decoded(&asked, fill, &Ok(given)).text) {
+        return Err(said.text);
     }
+    let book = crate::check_book(&asked.book).expect("a good book");
+    let shared = plain::best(&book, &asked.direction, 200)
+        .is_some_and(|best| best.top > 1 && best.score == Some(answer.score));
+    Ok(Held {
+        said,
+        shared,
+        others,
+    })
 }

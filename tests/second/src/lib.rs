@@ -7,6 +7,8 @@ pub mod campaign;
 pub mod cases;
 pub mod gen;
 pub mod plain;
+pub mod random_cases;
+pub mod rounds;
 
 pub use plain::all_derivations;
 
