@@ -13,17 +13,17 @@ fn put_gram(grams: &mut [i32], ts: usize, line: &[i32])
     requires { ⌜ 32_768 ≤ length (now grams) ⌝ }
     ensures { λ _. ⌜ now (grams .exit) ≡ withGram (now (grams .entry)) ts (now (line .entry)) ⌝ }
 {
-    if !line::is_kind(line, 3) {
+    if !lines::is_kind(line, 3) {
         return;
     }
     if 8_192 <= ts {
         return;
     }
     let at = 4 * ts;
-    grams[at] = line::number_at(line, 1);
-    grams[at + 1] = line::number_at(line, 2);
-    grams[at + 2] = line::number_at(line, 3);
-    grams[at + 3] = line::number_at(line, 4);
+    grams[at] = lines::number_at(line, 1);
+    grams[at + 1] = lines::number_at(line, 2);
+    grams[at + 2] = lines::number_at(line, 3);
+    grams[at + 3] = lines::number_at(line, 4);
 }
 
 // One line more, of a text or of a loaded list: what it adds to the survey, and its triple where it is a T line.

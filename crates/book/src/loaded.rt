@@ -19,7 +19,7 @@ pub fn size_at(book: &[i32], at: usize) -> usize
     requires { ⌜ at ≤ length (now book) ⌝ }
     ensures { λ r. ⌜ r ≡ sizeAt (now (book .entry)) at ⌝ }
 {
-    let size = line::size_of(&book[at..]);
+    let size = lines::size_of(&book[at..]);
     if size <= book.len() - at {
         return size;
     }
@@ -31,7 +31,7 @@ pub fn is_entry_at(book: &[i32], at: usize) -> bool
     requires { ⌜ at ≤ length (now book) ⌝ }
     ensures { λ r. ⌜ r ≡ isP (drop at (now (book .entry))) ⌝ }
 {
-    line::is_kind(&book[at..], 2)
+    lines::is_kind(&book[at..], 2)
 }
 
 // What is known of all lines of a loaded list; `grams` gets the triples of its T lines. Where a line is not whole, what

@@ -57,10 +57,10 @@ pub fn with_line(acc: Survey, line: &[i32]) -> Survey
     requires { ⌜ Few acc 4611686018427387904 ⌝ }
     ensures { λ r. ⌜ r ≡ withLine acc (now (line .entry)) ⌝ }
 {
-    let b = line::is_kind(line, 1);
-    let p = line::is_kind(line, 2);
-    let t = line::is_kind(line, 3);
-    let ranged = line::is_in_range(line);
+    let b = lines::is_kind(line, 1);
+    let p = lines::is_kind(line, 2);
+    let t = lines::is_kind(line, 3);
+    let ranged = lines::is_in_range(line);
     Survey {
         lines: acc.lines + 1,
         headed: of_first(acc.lines, b, acc.headed),

@@ -51,8 +51,8 @@ pub fn find_target(book: &[i32], entry: usize) -> Part
     while at < book.len() {
         if is_sought(book, at, left) {
             return Part {
-                start: at + 3 + line::natural_at(book, at + 1),
-                size: line::natural_at(book, at + 2),
+                start: at + 3 + lines::natural_at(book, at + 1),
+                size: lines::natural_at(book, at + 2),
             };
         }
         left = left_behind(book, at, left);

@@ -15,9 +15,9 @@ pub fn phrase_at(book: &[i32], entries: &[usize], count: usize, k: usize) -> Phr
     ensures { λ p. ⌜ PhraseOf (now (book .entry)) (entryAt (bookOf (now (book .entry))) k) p ⌝ }
 {
     let at = entries[k - 1];
-    let long = line::natural_at(book, at + 1);
-    let count = line::natural_at(book, at + 2);
-    let g = line::number_at(book, at + (3 + long + count));
+    let long = lines::natural_at(book, at + 1);
+    let count = lines::natural_at(book, at + 2);
+    let g = lines::number_at(book, at + (3 + long + count));
     Phrase {
         source: at + 3,
         long,

@@ -24,9 +24,9 @@ pub fn task_of(book: &[i32], n: usize, phrases: usize, triples: usize) -> Task
     requires { ⌜ bookRefusal (now book) ≡ 0 ⌝ }
     ensures { λ t. ⌜ TaskOf (bookOf (now (book .entry))) n phrases triples t ⌝ }
 {
-    let limit = line::natural_at(book, 1);
-    let eta = line::number_at(book, 2);
-    let unseen = line::number_at(book, 3);
+    let limit = lines::natural_at(book, 1);
+    let eta = lines::number_at(book, 2);
+    let unseen = lines::number_at(book, 3);
     Task {
         n,
         limit,

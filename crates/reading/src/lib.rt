@@ -44,7 +44,7 @@ fn survey_text(text: &[u8], grams: &mut [i32]) -> TextSurvey
         if 20 < n {
             return TextSurvey::Broken;
         }
-        if !line::is_whole(&row[..n]) {
+        if !lines::is_whole(&row[..n]) {
             return TextSurvey::Broken;
         }
         acc = grams::note_line(acc, grams, &row[..n]);

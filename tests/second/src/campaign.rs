@@ -108,20 +108,8 @@ fn search_round(rng: &mut Rng, shape: &Shape, tally: &mut Tally) {
         } else {
             gen::direction_from(rng, shape, &book)
         };
-        let (mut best, mut top_count, mut total) = (None, 0, 0);
-        let whole = plain::walk_derivations(&book, &direction, &mut |_, score| {
-            if best.is_none_or(|b| score > b) {
-                best = Some(score);
-                top_count = 0;
-            }
-            if best == Some(score) {
-                top_count += 1;
-            }
-            total += 1;
-            total < MOST_DERIVATIONS
-        });
-        if whole {
-            break (list, book, direction, best, top_count, total);
+        if let Some(found) = plain::best(&book, &direction, MOST_DERIVATIONS) {
+            break (list, book, direction, found.score, found.top, found.total);
         }
         tally.meet("inputs left aside (3,000 derivations or more)");
     };

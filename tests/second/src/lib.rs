@@ -4,8 +4,11 @@
 use std::collections::HashMap;
 
 pub mod campaign;
+pub mod cases;
 pub mod gen;
 pub mod plain;
+pub mod random_cases;
+pub mod rounds;
 
 pub use plain::all_derivations;
 

@@ -149,6 +149,31 @@ pub fn walk_derivations(
     )
 }
 
+/// The derivations of an input: the best score, how many have it, and how many there are.
+#[derive(Default)]
+pub struct Best {
+    pub score: Option<i64>,
+    pub top: usize,
+    pub total: usize,
+}
+
+/// All derivations walked; None where there are `most` or more.
+pub fn best(book: &Book, direction: &[u16], most: usize) -> Option<Best> {
+    let mut best = Best::default();
+    let whole = walk_derivations(book, direction, &mut |_, score| {
+        if best.score.is_none_or(|b| score > b) {
+            best.score = Some(score);
+            best.top = 0;
+        }
+        if best.score == Some(score) {
+            best.top += 1;
+        }
+        best.total += 1;
+        best.total < most
+    });
+    whole.then_some(best)
+}
+
 /// A key in the plain walks: the last two words, each position covered or not, r.
 pub type PlainKey = ([u16; 2], Vec<bool>, usize);
 

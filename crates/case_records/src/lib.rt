@@ -1,0 +1,3 @@
+// The calls with step records, asked with a part of an array of them on loan.
+pub mod decoding;
+pub mod scoring;

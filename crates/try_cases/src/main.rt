@@ -1,0 +1,53 @@
+// Cases as data: a line of standard input is a label, a bar, and the numbers of one call; the line printed for it is the label, what
+// the call replied, and every number of every list that it was lent.
+use case_line::input;
+use case_line::line;
+use case_reply::say;
+
+// The call of that number.
+fn call(text: &[u8], at: usize, number: u64) {
+    match number {
+        1 => case_reading::read_book(text, at),
+        2 => case_reading::read_direction(text, at),
+        3 => case_reading::check_book(text, at),
+        4 => case_reading::target_words(text, at),
+        5 => case_decoding::score(text, at),
+        6 => case_decoding::decode(text, at),
+        7 => case_reading::check_direction(text, at),
+        8 => case_decoding::render(text, at),
+        _ => say::word(b"no such call"),
+    }
+}
+
+// One line: the label, the bar, the call's number, and what the call is asked.
+fn case(text: &[u8]) {
+    let bar = line::find(text, 0, b'|');
+    if bar < text.len() {
+        say::begin(&text[..bar]);
+        let number = line::take_number(text, bar + 1);
+        call(text, number.end, number.size);
+        say::word(b"\n");
+    }
+}
+
+// The next line; false where there is none. A last one that is cut off is not run.
+fn turn() -> bool {
+    let mut text = [0u8; 200000];
+    let line = input::take_line(&mut text);
+    let n = line.count;
+    if line.whole {
+        case(&text[..n]);
+    }
+    line.whole
+}
+
+// The lines in turn. Nothing says that an input ends, so they are counted.
+fn main() {
+    let mut lines: usize = 0;
+    while lines < 1000000 {
+        if !turn() {
+            return;
+        }
+        lines += 1;
+    }
+}

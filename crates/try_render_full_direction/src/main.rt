@@ -1,4 +1,0 @@
-// 512 bytes on standard input are read: too many words.
-fn main() {
-    render_run::run();
-}

@@ -1,0 +1,362 @@
+//! Cases as data, for crates/try_cases: a line is a label, `|`, and decimal numbers with one blank between two: the call, its lists (a
+//! length, then each number), its scalars. In a list `( n z .. )` is what stands in it n times; there `#` is a number that counts
+//! up from z, and `/d` is the digit of that number at d = 1, 10, 100 .., as a byte. What the second decoder says to a line is what
+//! that program is to print; the steps of a decode are free among the derivations of the top score.
+
+use crate::gen::DecodeCase;
+use crate::{plain, Answer, Step};
+use std::fmt::{Display, Write};
+use std::str::{FromStr, SplitWhitespace};
+
+/// What the program has room for: bytes of a line and of a text, numbers of a book, words of a direction.
+pub const LINE: usize = 200_000;
+pub const TEXT: usize = 120_000;
+pub const BOOK: usize = 66_000;
+pub const DIRECTION: usize = 128;
+/// How many places each lent list has; the case says how many of them are lent.
+pub const READ: usize = 41_000;
+pub const WORDS: usize = 2_000;
+pub const STORE: usize = 33_000;
+pub const STEPS: usize = 1_100;
+/// What the rendering program takes, and one byte more; the bytes that it may print.
+const RENDERED: (usize, usize, usize) = (8_193, 513, 4_096);
+
+/// The numbers of a case that are not yet read.
+struct Case<'a>(SplitWhitespace<'a>);
+
+fn parsed<T: FromStr>(field: &str) -> T {
+    let number = field.parse().ok();
+    number.unwrap_or_else(|| panic!("{field} does not fit"))
+}
+
+impl<'a> Case<'a> {
+    fn field(&mut self) -> &'a str {
+        self.0.next().expect("a number more")
+    }
+    fn number<T: FromStr>(&mut self) -> T {
+        parsed(self.field())
+    }
+    fn count(&mut self, most: usize) -> usize {
+        let count = self.number();
+        assert!(count <= most, "{count} of {most} places");
+        count
+    }
+    /// What a group stands for.
+    fn group(&mut self) -> Vec<String> {
+        let (turns, first): (u64, u64) = (self.number(), self.number());
+        let items: Vec<&str> = self.0.by_ref().take_while(|&item| item != ")").collect();
+        let said = |k: u64, item: &str| match item.strip_prefix('/') {
+            Some(d) => (k / parsed::<u64>(d) % 10 + 48).to_string(),
+            None if item == "#" => k.to_string(),
+            None => item.to_string(),
+        };
+        (first..first + turns)
+            .flat_map(|k| items.iter().map(move |item| said(k, item)))
+            .collect()
+    }
+    fn list<T: FromStr>(&mut self, most: usize) -> Vec<T> {
+        let count = self.count(most);
+        let mut list: Vec<T> = Vec::new();
+        while list.len() < count {
+            match self.field() {
+                "(" => list.extend(self.group().iter().map(|field| parsed(field))),
+                field => list.push(parsed(field)),
+            }
+        }
+        assert_eq!(list.len(), count, "a group that goes beyond its list");
+        list
+    }
+    fn steps(&mut self) -> Vec<Step> {
+        let count = self.count(STEPS);
+        let mut step = || (self.number(), self.number(), self.number());
+        (0..count).map(|_| step()).collect()
+    }
+    fn decode(&mut self) -> DecodeCase {
+        DecodeCase {
+            book: self.list(BOOK),
+            direction: self.list(DIRECTION),
+            width: self.number(),
+            steps_len: self.count(STEPS),
+            words_len: self.count(WORDS),
+            store_len: self.count(STORE),
+        }
+    }
+}
+
+/// What a list is full of before the call: numbers that count up from `fill`, and 0 follows 65,535.
+fn garbage(fill: u16, places: usize) -> Vec<i64> {
+    (0..places)
+        .map(|i| fill.wrapping_add(i as u16) as i64)
+        .collect()
+}
+
+/// A step as it is printed.
+fn step_text<T: Display>(first: T, last: T, entry: T) -> String {
+    format!("{first}.{last}.{entry}")
+}
+
+/// The same of steps, of three numbers each.
+fn garbage_steps(fill: u16) -> Vec<String> {
+    let numbers = garbage(fill, 3 * STEPS);
+    let steps = numbers.chunks(3);
+    steps.map(|s| step_text(s[0], s[1], s[2])).collect()
+}
+
+/// The list after that was written at its beginning.
+fn over<T: Clone>(written: impl IntoIterator<Item = T>, before: &[T]) -> Vec<T> {
+    let mut after = before.to_vec();
+    for (place, number) in after.iter_mut().zip(written) {
+        *place = number;
+    }
+    after
+}
+
+/// A lent list after the call, whole: `~n` is n places that are as before; any other number stands for itself, with `*n` where n in
+/// a row are that number.
+fn lent<T: Display + PartialEq>(name: &str, after: &[T], before: &[T]) -> String {
+    let kept = |i: usize| after[i] == before[i];
+    let mut line = format!(" {name}");
+    let mut at = 0;
+    while at < before.len() {
+        let same = |i: &usize| kept(*i) == kept(at) && (kept(at) || after[*i] == after[at]);
+        let run = (at..before.len()).take_while(same).count();
+        match (kept(at), run) {
+            (true, _) => write!(line, " ~{run}"),
+            (false, 1) => write!(line, " {}", after[at]),
+            (false, _) => write!(line, " {}*{run}", after[at]),
+        }
+        .unwrap();
+        at += run;
+    }
+    line
+}
+
+/// What a case's line is to say.
+pub struct Said {
+    pub call: &'static str,
+    /// The refusal's number; 0 for a result.
+    pub code: u8,
+    pub text: String,
+}
+
+fn said<T>(call: &'static str, reply: &Result<T, u8>, text: String) -> Said {
+    let code = *reply.as_ref().err().unwrap_or(&0);
+    Said { call, code, text }
+}
+
+/// The reply to a reading, and the list after it, held to `expected` over the garbage.
+fn read<T: Copy + Into<i64>>(
+    name: &str,
+    reply: &Result<Vec<T>, u8>,
+    expected: &[i32],
+    garbage: &[i64],
+) -> String {
+    let (head, written) = match reply {
+        Ok(list) => (format!("N,{}", list.len()), &list[..]),
+        Err(k) => (format!("R,{k}"), &[][..]),
+    };
+    let after = over(written.iter().map(|&z| z.into()), garbage);
+    let before = over(expected.iter().map(|&z| z as i64), garbage);
+    head + &lent(name, &after, &before)
+}
+
+fn read_book(case: &mut Case) -> Said {
+    let (text, expected) = (case.list::<u8>(TEXT), case.list::<i32>(READ));
+    let (places, fill) = (case.count(READ), case.number());
+    let reply = crate::read_book(&text, places);
+    let line = read("book", &reply, &expected, &garbage(fill, READ));
+    let said = said("read_book", &reply, line);
+    assert_eq!(plain::book_text_verdict(&text, places).0, said.code);
+    said
+}
+
+fn read_direction(case: &mut Case) -> Said {
+    let (text, places) = (case.list::<u8>(TEXT), case.count(WORDS));
+    let fill = case.number();
+    let reply = crate::read_direction(&text, places);
+    let line = read("words", &reply, &[], &garbage(fill, WORDS));
+    let said = said("read_direction", &reply, line);
+    assert_eq!(plain::direction_text_verdict(&text, places).0, said.code);
+    said
+}
+
+fn checked(call: &'static str, reply: Result<(), u8>) -> Said {
+    let text = reply.map_or_else(|k| format!("R,{k}"), |()| "passed".into());
+    said(call, &reply, text)
+}
+
+fn target_words(book: &[i32], entry: usize) -> Said {
+    let (start, size) = crate::target_part(book, entry);
+    let row: String = book[start..start + size]
+        .iter()
+        .map(|w| format!(",{w}"))
+        .collect();
+    said("target_words", &Ok(()), format!("N,{size}{row}"))
+}
+
+/// Up to 12 no lent list changes; after 13, 14, 15 and success the store is all zero.
+fn decoded(case: &DecodeCase, fill: u16, reply: &Result<Answer, u8>) -> Said {
+    let (head, zeros, steps, words): (_, _, &[Step], &[u16]) = match reply {
+        Err(k) if *k <= 12 => (format!("R,{k}"), 0, &[], &[]),
+        Err(k) => (format!("R,{k}"), case.store_len, &[], &[]),
+        Ok(a) => {
+            let (s, w) = (a.steps.len(), a.words.len());
+            let head = format!("A,{} N,{s} N,{w} N,{}", a.score, a.states);
+            (head, case.store_len, &a.steps, &a.words)
+        }
+    };
+    let steps = steps.iter().map(|&(f, l, e)| step_text(f, l, e));
+    let words = words.iter().map(|&w| w as i64);
+    let (no_steps, no_words, full) = (
+        garbage_steps(fill),
+        garbage(fill, WORDS),
+        garbage(fill, STORE),
+    );
+    let text = head
+        + &lent("steps", &over(steps, &no_steps), &no_steps)
+        + &lent("words", &over(words, &no_words), &no_words)
+        + &lent("store", &over(vec![0; zeros], &full), &full);
+    said("decode", reply, text)
+}
+
+fn rendered(case: &mut Case) -> Said {
+    let (book, direction) = (case.list::<u8>(RENDERED.0), case.list::<u8>(RENDERED.1));
+    let fill = case.number::<u16>() as usize;
+    let out = crate::render(&book, &direction);
+    let before: Vec<u8> = (fill..fill + RENDERED.2).map(|z| z as u8).collect();
+    let after = over(out.iter().copied(), &before);
+    let text = format!("N,{}{}", out.len(), lent("out", &after, &before));
+    said("render", &Ok(()), text)
+}
+
+/// What the second decoder says to the numbers of a case.
+fn answer(case: &mut Case) -> Said {
+    match case.number::<u8>() {
+        1 => read_book(case),
+        2 => read_direction(case),
+        3 => {
+            let book = case.list::<i32>(BOOK);
+            let reply = crate::check_book(&book).map(|_| ());
+            assert_eq!(plain::loaded_verdict(&book), reply.err().unwrap_or(0));
+            checked("check_book", reply)
+        }
+        4 => target_words(&case.list::<i32>(BOOK), case.number()),
+        5 => {
+            let (book, direction) = (case.list::<i32>(BOOK), case.list::<u16>(DIRECTION));
+            let reply = crate::score(&book, &direction, &case.steps());
+            let text = reply.map_or_else(|k| format!("R,{k}"), |z| z.to_string());
+            said("score", &reply, text)
+        }
+        6 => {
+            let asked = case.decode();
+            decoded(&asked, case.number(), &asked.answer())
+        }
+        7 => checked(
+            "check_direction",
+            crate::check_direction(&case.list::<u16>(DIRECTION)),
+        ),
+        8 => rendered(case),
+        k => panic!("call {k}"),
+    }
+}
+
+/// What the second decoder says to a line, with the line's label.
+pub fn line_said(line: &str) -> Said {
+    let (label, numbers) = line.split_once('|').expect("a label and a bar");
+    let mut case = Case(numbers.split_whitespace());
+    let mut said = answer(&mut case);
+    assert!(case.0.next().is_none(), "{label}: a number too many");
+    said.text = format!("{label}: {}", said.text);
+    said
+}
+
+/// The steps of a printed line, each place of the list, for a list that was full of the case's garbage.
+fn printed_steps(printed: &str, fill: u16) -> Option<Vec<Step>> {
+    let (_, rest) = printed.split_once(" steps ")?;
+    let (runs, _) = rest.split_once(" words ")?;
+    let before = garbage_steps(fill);
+    let mut all: Vec<String> = Vec::new();
+    for run in runs.split(' ') {
+        match (run.strip_prefix('~'), run.split_once('*')) {
+            (Some(n), _) => {
+                let end = all.len() + n.parse::<usize>().ok()?;
+                all.extend_from_slice(before.get(all.len()..end)?);
+            }
+            (None, Some((step, n))) => all.extend(vec![step.to_string(); n.parse().ok()?]),
+            (None, None) => all.push(run.to_string()),
+        }
+    }
+    let step = |text: &String| {
+        let numbers: Vec<u16> = text.split('.').map_while(|n| n.parse().ok()).collect();
+        match numbers[..] {
+            [first, last, entry] => Some((first, last, entry)),
+            _ => None,
+        }
+    };
+    all.iter().map(step).collect()
+}
+
+/// The answer with the steps that a line printed: by document 01 a valid derivation of the score, at the front of the list, and its
+/// words.
+fn by_rule(case: &DecodeCase, answer: &Answer, printed: &[Step]) -> Option<Answer> {
+    let book = crate::check_book(&case.book).ok()?;
+    let most = printed.len().min(case.direction.len());
+    let steps = (0..=most)
+        .map(|k| &printed[..k])
+        .find(|steps| plain::valid(&book, &case.direction, steps))?;
+    if plain::score_of(&book, steps) != answer.score {
+        return None;
+    }
+    Some(Answer {
+        steps: steps.to_vec(),
+        words: plain::words_of(&book, steps),
+        ..answer.clone()
+    })
+}
+
+/// A printed line that is what it should be.
+pub struct Held {
+    pub said: Said,
+    /// Several derivations share the top score (looked for where there are few derivations).
+    pub shared: bool,
+    /// The steps are others than the second decoder's.
+    pub others: bool,
+}
+
+/// Holds a printed line to the second decoder: word for word, but for the steps and words of a decode, which are held to the rule.
+/// Where it is not so, what the second decoder says.
+pub fn held(line: &str, printed: &str) -> Result<Held, String> {
+    let said = line_said(line);
+    if said.call != "decode" || said.code != 0 {
+        let (shared, others) = (false, false);
+        return match said.text == printed {
+            true => Ok(Held {
+                said,
+                shared,
+                others,
+            }),
+            false => Err(said.text),
+        };
+    }
+    let (label, numbers) = line.split_once('|').expect("a label and a bar");
+    let mut case = Case(numbers.split_whitespace());
+    case.number::<u8>();
+    let (asked, fill) = (case.decode(), case.number());
+    let answer = asked.answer().expect("an answer");
+    let given = printed_steps(printed, fill).and_then(|steps| by_rule(&asked, &answer, &steps));
+    let Some(given) = given else {
+        return Err(said.text);
+    };
+    let others = given.steps != answer.steps;
+    if printed != format!("{label}: {}", decoded(&asked, fill, &Ok(given)).text) {
+        return Err(said.text);
+    }
+    let book = crate::check_book(&asked.book).expect("a good book");
+    let shared = plain::best(&book, &asked.direction, 200)
+        .is_some_and(|best| best.top > 1 && best.score == Some(answer.score));
+    Ok(Held {
+        said,
+        shared,
+        others,
+    })
+}

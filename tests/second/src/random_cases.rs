@@ -1,0 +1,191 @@
+//! Random inputs as cases for crates/try_cases, and what that program prints for them, held to the second decoder.
+
+use crate::cases::{self, BOOK, DIRECTION, LINE, READ, STEPS, STORE, TEXT, WORDS};
+use crate::gen::{self, DecodeCase, Rng, Shape};
+use crate::rounds::{self, Calls, Tally};
+use crate::{plain, Step};
+use std::fmt::Display;
+
+/// The lines made so far, and how many inputs the program has no room for: those are left out.
+#[derive(Default)]
+pub struct Lines {
+    pub lines: Vec<String>,
+    pub left_out: usize,
+}
+
+/// A list as a case has it.
+fn list<T: Display>(numbers: &[T]) -> String {
+    let fields = numbers.iter().map(|z| format!(" {z}"));
+    format!("{}{}", numbers.len(), fields.collect::<String>())
+}
+
+impl Lines {
+    /// A line for the call with those numbers, where each size is within its room.
+    fn add(&mut self, sizes: &[(usize, usize)], numbers: String) {
+        let line = format!("case {}|{numbers}", self.lines.len() + 1);
+        if line.len() < LINE && sizes.iter().all(|(size, room)| size <= room) {
+            self.lines.push(line);
+        } else {
+            self.left_out += 1;
+        }
+    }
+
+    fn check_direction(&mut self, direction: &[u16]) {
+        let sizes = [(direction.len(), DIRECTION)];
+        self.add(&sizes, format!("7 {}", list(direction)));
+    }
+
+    /// Only where no two derivations share the top score: the bytes printed are free among those.
+    fn render(&mut self, rng: &mut Rng, book: &[u8], direction: &[u8]) {
+        let read = crate::read_book(book, usize::MAX)
+            .and_then(|list| crate::check_book(&list))
+            .and_then(|book| Ok((book, crate::read_direction(direction, usize::MAX)?)));
+        let one = match read {
+            Ok((book, words)) => plain::best(&book, &words, 3_000).is_some_and(|b| b.top <= 1),
+            Err(_) => true,
+        };
+        if one {
+            let sizes = [(book.len(), 8_193), (direction.len(), 513)];
+            let numbers = format!("8 {} {} {}", list(book), list(direction), fill(rng));
+            self.add(&sizes, numbers);
+        }
+    }
+}
+
+/// What the first place of each lent list holds.
+fn fill(rng: &mut Rng) -> u16 {
+    match rng.below(4) {
+        0 => rng.below(40) as u16,
+        _ => rng.draw() as u16,
+    }
+}
+
+impl Calls for Lines {
+    fn read_book(&mut self, rng: &mut Rng, text: &[u8], places: usize) {
+        let numbers = format!("1 {} 0 {places} {}", list(text), fill(rng));
+        self.add(&[(text.len(), TEXT), (places, READ)], numbers);
+    }
+    fn read_direction(&mut self, rng: &mut Rng, text: &[u8], places: usize) {
+        let numbers = format!("2 {} {places} {}", list(text), fill(rng));
+        self.add(&[(text.len(), TEXT), (places, WORDS)], numbers);
+    }
+    fn check_book(&mut self, rng: &mut Rng, book: &[i32]) {
+        let sizes = [(book.len(), BOOK)];
+        self.add(&sizes, format!("3 {}", list(book)));
+        let entry = match rng.below(3) {
+            0 => rng.draw(),
+            _ => rng.below(12) as u64,
+        };
+        self.add(&sizes, format!("4 {} {entry}", list(book)));
+    }
+    fn score(&mut self, _: &mut Rng, book: &[i32], direction: &[u16], steps: &[Step]) {
+        let numbers = steps.iter().map(|(f, l, e)| format!(" {f} {l} {e}"));
+        let numbers: String = numbers.collect();
+        let sizes = [
+            (book.len(), BOOK),
+            (direction.len(), DIRECTION),
+            (steps.len(), STEPS),
+        ];
+        let (book, direction) = (list(book), list(direction));
+        self.add(
+            &sizes,
+            format!("5 {book} {direction} {}{numbers}", steps.len()),
+        );
+    }
+    fn decode(&mut self, rng: &mut Rng, case: &DecodeCase) {
+        let sizes = [
+            (case.book.len(), BOOK),
+            (case.direction.len(), DIRECTION),
+            (case.steps_len, STEPS),
+            (case.words_len, WORDS),
+            (case.store_len, STORE),
+        ];
+        let (book, direction) = (list(&case.book), list(&case.direction));
+        let lent = format!("{} {} {}", case.steps_len, case.words_len, case.store_len);
+        let numbers = format!("6 {book} {direction} {} {lent} {}", case.width, fill(rng));
+        self.add(&sizes, numbers);
+    }
+}
+
+/// Directions as numbers, and a rendering.
+fn other_calls(rng: &mut Rng, shape: &Shape, lines: &mut Lines) {
+    for code in [0, 9, 10] {
+        lines.check_direction(&gen::direction_saying(rng, shape, code));
+    }
+    let (book, direction) = (rng.pick(&[0, 0, 0, 0, 1, 3]), rng.pick(&[0, 0, 0, 8]));
+    let book = gen::text_saying(rng, shape, book);
+    let direction = gen::direction_text_saying(rng, shape, direction);
+    lines.render(rng, &book, &direction);
+}
+
+/// Scoring and decoding with a book that question `code` refuses.
+fn refused_books(rng: &mut Rng, shape: &Shape, code: u8, lines: &mut Lines) {
+    let mut case = gen::decode_case(rng, shape);
+    case.book = gen::book_saying(rng, shape, code);
+    lines.score(rng, &case.book, &case.direction, &[(1, 1, 1)]);
+    lines.decode(rng, &case);
+}
+
+/// So many lines, or a few more: in most rounds the two calls with step records, in every sixteenth the others too.
+pub fn made(seed: u64, inputs: usize) -> Lines {
+    let (mut rng, mut lines) = (Rng::new(seed), Lines::default());
+    let mut k = 0;
+    while lines.lines.len() < inputs {
+        let shape = rounds::shape(&mut rng, k);
+        rounds::scoring_round(&mut rng, &shape, &mut lines);
+        for _ in 0..3 {
+            rounds::decoding_round(&mut rng, &shape, &mut lines);
+        }
+        if k % 16 == 0 {
+            rounds::reading_round(&mut rng, &shape, false, &mut lines);
+            other_calls(&mut rng, &shape, &mut lines);
+            let code = rng.pick(&[2, 3, 4, 6]);
+            refused_books(&mut rng, &shape, code, &mut lines);
+        }
+        if k % 64 == 1 {
+            refused_books(&mut rng, &shape, 5, &mut lines);
+        }
+        k += 1;
+    }
+    lines
+}
+
+/// The answers that random inputs reach in the two calls with step records; 0 stands for a result.
+const REACHED: [(&str, &[u8]); 2] = [
+    ("score", &[0, 2, 3, 4, 5, 6, 9, 10, 16, 17, 18, 19]),
+    ("decode", &[0, 2, 3, 4, 5, 6, 9, 10, 11, 12, 13, 14, 15]),
+];
+
+/// Holds each line that was printed to its case, and prints how often each call gave each answer. What is wrong, in a sentence: a line
+/// that differs, or an answer of the calls with step records that was met fewer than `least` times.
+pub fn hold(lines: &str, printed: &str, least: u64) -> Result<(), String> {
+    let (mut tally, mut shared, mut others) = (Tally::default(), 0, 0);
+    let (asked, given) = (lines.lines().count(), printed.lines().count());
+    if asked != given {
+        return Err(format!("{asked} cases, but {given} lines printed"));
+    }
+    for (line, printed) in lines.lines().zip(printed.lines()) {
+        let held = cases::held(line, printed).map_err(|meant| {
+            format!(
+                "a difference:\n{line}\nprinted\n{printed}\nbut the second decoder says\n{meant}"
+            )
+        })?;
+        tally.count(held.said.call, held.said.code);
+        shared += held.shared as u64;
+        others += held.others as u64;
+    }
+    tally.print();
+    println!("decodes where several derivations have the top score: {shared} or more; with other steps than the second decoder's: {others}");
+    for (call, codes) in REACHED {
+        for &code in codes {
+            let times = tally.times(call, code);
+            if times < least {
+                return Err(format!(
+                    "{call} gave {code} {times} times, fewer than {least}"
+                ));
+            }
+        }
+    }
+    println!("{asked} cases, every line the second decoder's");
+    Ok(())
+}

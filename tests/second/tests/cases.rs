@@ -1,0 +1,76 @@
+//! Cases as data: how a line is read, and how a printed line is held to the rule where document 01 leaves the steps free.
+use second::cases::{held, line_said};
+
+/// Entries 1 and 2 are equal, entry 3 scores less, and entry 4 does not fit.
+const TIE: &str = "tie|6 28 1 0 0 0 2 1 1 11 101 -20 2 1 1 11 101 -20 2 1 1 11 101 -30 2 1 1 12 101 -20 1 11 -1 1 8 16 500";
+
+const PRINTED: &str = "tie: A,-20 N,1 N,1 N,2 steps 1.1.1 ~1099 words 101 ~1999 store 0*16 ~32984";
+
+#[test]
+fn a_tie_is_free() {
+    assert_eq!(line_said(TIE).text, PRINTED);
+    let same = held(TIE, PRINTED).ok().expect("the line itself");
+    assert!(same.shared && !same.others);
+    let other = held(TIE, &PRINTED.replace("1.1.1", "1.1.2"));
+    let other = other.ok().expect("the other derivation");
+    assert!(other.shared && other.others);
+}
+
+#[test]
+fn what_is_no_best_derivation_is_refused() {
+    for (old, new) in [
+        ("1.1.1 ~1099", "1.1.3 ~1099"),
+        ("1.1.1 ~1099", "1.1.4 ~1099"),
+        ("1.1.1 ~1099", "1.1.5 ~1099"),
+        ("1.1.1 ~1099", "~1100"),
+        ("1.1.1 ~1099", "1.1.1*2 ~1098"),
+        ("1.1.1 ~1099", "1.1.1"),
+        ("words 101", "words 102"),
+        ("~1999", "101 ~1998"),
+        ("A,-20", "A,-30"),
+        ("N,1 N,1 N,2", "N,1 N,1 N,3"),
+        ("0*16 ~32984", "0*15 ~32985"),
+        ("steps", "step"),
+    ] {
+        let printed = PRINTED.replacen(old, new, 1);
+        assert_ne!(printed, PRINTED);
+        assert!(held(TIE, &printed).is_err(), "{printed}");
+    }
+}
+
+/// A step that the garbage held already stands as `~`.
+#[test]
+fn a_step_may_be_as_before() {
+    let line =
+        "g|6 23 1 0 0 0 2 1 1 13 101 0 2 1 1 14 101 0 2 2 1 11 12 101 -20 2 11 12 -1 2 16 16 1";
+    let said = line_said(line).text;
+    assert!(said.contains(" steps ~1100 words 101 ~1999 "), "{said}");
+    assert!(held(line, &said).is_ok());
+}
+
+#[test]
+fn a_group_stands_for_its_items() {
+    let said = |line: &str| line_said(line).text;
+    assert_eq!(
+        said("text|2 6 ( 2 7 /1 44 ) 57 10 32 100"),
+        "text: N,3 words 7 8 9 ~1997"
+    );
+    assert_eq!(
+        said("digits|2 6 ( 1 123 /100 /10 /1 48 ) 50 10 32 100"),
+        "digits: N,1 words 12302 ~1999"
+    );
+    assert_eq!(said("list|3 14 1 0 0 0 ( 2 9 3 0 0 # 0 )"), "list: passed");
+    assert_eq!(said("list|3 14 1 0 0 0 ( 2 9 3 0 0 9 0 )"), "list: R,6");
+}
+
+#[test]
+#[should_panic(expected = "a group that goes beyond its list")]
+fn a_group_ends_with_its_list() {
+    line_said("list|7 3 ( 2 9 # # )");
+}
+
+#[test]
+#[should_panic(expected = "a number too many")]
+fn a_line_ends_with_its_numbers() {
+    line_said("list|7 1 9 9");
+}
