@@ -1,4 +1,4 @@
--- The twelve inputs that document 01 marks to be proved (its "marked drawers"), its printed example, and three inputs beyond
+-- The twelve inputs that document 01 marks to be proved (its "marked drawers"), its printed example, and four inputs beyond
 -- the twelve, each computed from the definitions.
 use Prim.Native.Nat.{ℕ, _*_}
 use Prim.Native.String.{String, [] as emptyText, _∷_ as _then_}

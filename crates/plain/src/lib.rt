@@ -1,4 +1,4 @@
-// Scoring and decoding on plain numbers, with all that a search needs in local arrays: about 450 KB of stack.
+// Scoring and decoding on plain numbers, with all that a search needs in local arrays: about 460,000 bytes of stack.
 use answer::Core;
 use decoder::decode;
 use extending::Job;
