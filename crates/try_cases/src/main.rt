@@ -1,5 +1,17 @@
 // Cases as data: a line of standard input is a label, a bar, and the numbers of one call; the line printed for it is the label, what
-// the call replied, and every number of every list that it was lent.
+// the call replied, and every number of every list that it was lent (`case_show`). A list is its length and its numbers (`case_line`).
+//
+//     1 TEXT BOOK places fill    read a book; the list printed is held to BOOK, which may be empty, at its beginning
+//     2 TEXT places fill         read a direction
+//     3 BOOK                     check a book
+//     4 BOOK entry               an entry's target words
+//     5 BOOK DIRECTION STEPS     score with records: a count, then first, last and entry of each step
+//     6 BOOK DIRECTION width steps words store fill    decode with records
+//     7 DIRECTION                check a direction
+//     8 TEXT TEXT fill           what the rendering program prints
+//
+// `places`, `steps`, `words` and `store` say how many places are lent, `fill` what the first place of each list holds (`case_fill`). To
+// add cases, add lines to `stdin`, and write `stdout` by the second decoder's program `cases`.
 use case_line::input;
 use case_line::line;
 use case_reply::say;

@@ -19,7 +19,7 @@ pub const WORDS: usize = 2_000;
 pub const STORE: usize = 33_000;
 pub const STEPS: usize = 1_100;
 /// What the rendering program takes, and one byte more; the bytes that it may print.
-const RENDERED: (usize, usize, usize) = (8_193, 513, 4_096);
+pub const RENDERED: (usize, usize, usize) = (8_193, 513, 4_096);
 
 /// The numbers of a case that are not yet read.
 struct Case<'a>(SplitWhitespace<'a>);

@@ -157,8 +157,11 @@ pub struct Best {
     pub total: usize,
 }
 
-/// All derivations walked; None where there are `most` or more.
+/// All derivations walked; None where there are `most` or more, or where the direction is too long to walk them.
 pub fn best(book: &Book, direction: &[u16], most: usize) -> Option<Best> {
+    if direction.len() > 6 {
+        return None;
+    }
     let mut best = Best::default();
     let whole = walk_derivations(book, direction, &mut |_, score| {
         if best.score.is_none_or(|b| score > b) {

@@ -1,6 +1,6 @@
 //! Random inputs as cases for crates/try_cases, and what that program prints for them, held to the second decoder.
 
-use crate::cases::{self, BOOK, DIRECTION, LINE, READ, STEPS, STORE, TEXT, WORDS};
+use crate::cases::{self, BOOK, DIRECTION, LINE, READ, RENDERED, STEPS, STORE, TEXT, WORDS};
 use crate::gen::{self, DecodeCase, Rng, Shape};
 use crate::rounds::{self, Calls, Tally};
 use crate::{plain, Step};
@@ -45,7 +45,7 @@ impl Lines {
             Err(_) => true,
         };
         if one {
-            let sizes = [(book.len(), 8_193), (direction.len(), 513)];
+            let sizes = [(book.len(), RENDERED.0), (direction.len(), RENDERED.1)];
             let numbers = format!("8 {} {} {}", list(book), list(direction), fill(rng));
             self.add(&sizes, numbers);
         }
@@ -138,7 +138,8 @@ pub fn made(seed: u64, inputs: usize) -> Lines {
         }
         if k % 16 == 0 {
             rounds::reading_round(&mut rng, &shape, false, &mut lines);
-            other_calls(&mut rng, &shape, &mut lines);
+            let small = Shape::small(&mut rng);
+            other_calls(&mut rng, &small, &mut lines);
             let code = rng.pick(&[2, 3, 4, 6]);
             refused_books(&mut rng, &shape, code, &mut lines);
         }
