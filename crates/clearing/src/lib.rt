@@ -3,7 +3,7 @@ use store::index;
 ghost use mathlib.Core.Path.{_≡_};
 ghost use lib.IntN.{pos};
 ghost use lib.ListN.{length, replicate};
-ghost use Prim.Native.Nat.{ℕ, _+_, _*_, _≤_};
+ghost use Prim.Native.Nat.{_+_, _*_, _≤_};
 ghost use Rattle.store.specs.Store.{Indexed, Zeroed};
 
 // Every number of the store is zero, also those past the last place.

@@ -1,9 +1,8 @@
 // The covered positions of a direction as a binary number: position 1 is its lowest digit.
 ghost use mathlib.Core.Path.{_≡_};
-ghost use Prim.Native.Nat.{ℕ, _+_, _-_, _*_, _^_, _≤_, _<_};
+ghost use Prim.Native.Nat.{_+_, _-_, _*_, _^_, _≤_, _<_};
 ghost use lib.Dec.{leb};
-ghost use lib.ListN.{length, getD};
-ghost use Rattle.laws.specs.Bits.{bitsOf};
+ghost use lib.ListN.{getD};
 ghost use Rattle.coverage.specs.Runs.{runHere, Unpacked, RunsFrom, maskOf};
 
 // How many positions in a row are free, from each position on; place i stands for position i + 1.

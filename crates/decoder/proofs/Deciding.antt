@@ -1,10 +1,10 @@
 -- The best state of the store is the answer of the search.
-use Prim.Native.Nat.{ℕ, _*_, _/_, _≤_, _<_}
+use Prim.Native.Nat.{ℕ, _/_, _≤_, _<_}
 use native.Mathlib.Omega.{arith}
 use mathlib.Core.Path.{_≡_, refl, sym, _∙_, ap, subst}
-use mathlib.Core.Bool.{Bool, true, false}
+use mathlib.Core.Bool.{Bool}
 use mathlib.Core.List.{List}
-use mathlib.Core.Option.{Option, none, some}
+use mathlib.Core.Option.{Option, none}
 use borrow.Author.Tests.{le-leb, lt-leb}
 use lib.IntN.{ℤ}
 use lib.ListN.{length, getD}
@@ -15,11 +15,10 @@ use Rattle.notes.specs.Direction.{wordCount}
 use Rattle.notes.specs.State.{Hyp, wordsCovered, isBetter}
 use Rattle.notes.specs.Search.{search, answer, entered}
 use Rattle.notes.specs.declared.Refusal.the-variants.{StoreTooSmall}
-use Rattle.states.specs.Answer.{Below, noClose, picked}
+use Rattle.states.specs.Answer.{noClose, picked}
 use Rattle.states.specs.Ghost.{Starting}
 use Rattle.states.specs.Shows.{nobody, Lists}
 use Rattle.store.specs.declared.Found.{Found}
-use Rattle.store.specs.declared.Found.the-variants.{At, Nothing}
 use Rattle.states.proofs.Back.{start-chains, start-short}
 use Rattle.states.proofs.Ghost.{best-read, search-ends}
 use Rattle.answer.specs.declared.Core.{Core}

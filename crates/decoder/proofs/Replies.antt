@@ -1,5 +1,5 @@
 -- The answer on plain numbers is that of the definition, question by question.
-use Prim.Native.Nat.{ℕ, suc, _+_, _*_, _/_, _^_, _≤_, _<_}
+use Prim.Native.Nat.{ℕ, _*_, _/_, _^_, _≤_, _<_}
 use native.Mathlib.Omega.{arith}
 use mathlib.Core.Path.{_≡_, refl, sym, _∙_, ap, subst}
 use mathlib.Core.Bool.{Bool, true, false, not, cond, _&&_, _||_, true≢false}
@@ -17,9 +17,9 @@ use Rattle.notes.specs.Questions.{_unless_, _orelse_, number}
 use Rattle.notes.specs.Book.{Book, bookOf, bookRefusal}
 use Rattle.notes.specs.Direction.{wordCount, directionRefusal}
 use Rattle.notes.specs.Derivation.{isValid, targetWords}
-use Rattle.notes.specs.State.{Hyp, start, wordsCovered}
+use Rattle.notes.specs.State.{Hyp, start}
 use Rattle.notes.specs.Search.{isOff, entered, lastSet, answer}
-use Rattle.notes.specs.Reply.{Reply, refused, done, reply, writtenOver, Lent, Outcome, decodedReply, beforeSearch, afterSearch, decodeRefusal, answerScore, decode, clearedIf, decodedStore, Written, ListsAfter, Decodes}
+use Rattle.notes.specs.Reply.{refused, done, reply, writtenOver, Lent, Outcome, decodedReply, beforeSearch, afterSearch, decodeRefusal, decode, decodedStore, ListsAfter}
 use Rattle.notes.specs.declared.Decoded.{Decoded}
 use Rattle.notes.specs.declared.Refusal.{Refusal}
 use Rattle.notes.specs.declared.Refusal.the-variants.{Width, StepsOrWordsTooShort, StoreTooSmall, NoDerivation, LastSetEmpty}

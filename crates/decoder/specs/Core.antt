@@ -1,27 +1,21 @@
 -- What a decode answers on plain numbers.
-use Prim.Native.Nat.{ℕ, _+_, _≤_, _<_}
+use Prim.Native.Nat.{ℕ, _≤_}
 use mathlib.Core.Path.{_≡_}
 use mathlib.Core.Bool.{Bool, true, false, cond}
 use mathlib.Core.List.{List}
 use mathlib.Core.Option.{Option, none, some}
 use lib.Dec.{leb}
 use lib.IntN.{ℤ}
-use lib.ListN.{length, getD}
+use lib.ListN.{length}
 use Rattle.notes.specs.Book.{Book}
-use Rattle.notes.specs.Derivation.{targetWords}
-use Rattle.notes.specs.Direction.{wordCount}
 use Rattle.notes.specs.Reply.{writtenOver, Decodes}
-use Rattle.notes.specs.Search.{fittingSteps, isOff, answer, entered}
+use Rattle.notes.specs.Search.{isOff, answer, entered}
 use Rattle.notes.specs.State.{Hyp}
 use Rattle.notes.specs.declared.Step.{Step}
-use Rattle.notes.specs.declared.Decoded.the-variants.{Done, Refused}
+use Rattle.notes.specs.declared.Decoded.the-variants.{Refused}
 use Rattle.notes.specs.declared.Refusal.{Refusal}
 use Rattle.notes.specs.declared.Refusal.the-variants.{StoreTooSmall, NoDerivation, LastSetEmpty}
 use Rattle.records.specs.Plain.{noSteps, stepsOf}
-use Rattle.states.specs.Back.{Chains}
-use Rattle.states.specs.Ghost.{optionAt}
-use Rattle.states.specs.Shows.{nobody, Shows}
-use Rattle.store.specs.Store.{placeAt}
 use Rattle.answer.specs.declared.Core.{Core}
 use Rattle.answer.specs.Told.{Told}
 

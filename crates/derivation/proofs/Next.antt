@@ -1,15 +1,13 @@
 -- The state after a step, by the code's numbers, is the next state of document 01.
-use Prim.Native.Nat.{ℕ, suc, _+_, _^_, _≤_, _<_}
-use native.Mathlib.Omega.{arith}
-use mathlib.Core.Path.{_≡_, refl, sym, _∙_, ap, ap₂}
-use mathlib.Core.Bool.{Bool, true}
+use Prim.Native.Nat.{ℕ, _^_, _≤_, _<_}
+use mathlib.Core.Path.{_≡_, refl, sym, _∙_, ap}
+use mathlib.Core.Bool.{true}
 use mathlib.Core.List.{List, [], _∷_}
 use lib.IntN.{ℤ, pos, _+ℤ_, _*ℤ_, +ℤ-idl, +ℤ-idr, +ℤ-assoc}
-use Rattle.laws.specs.Bits.{bitsOf}
-use Rattle.coverage.proofs.Laws.{mask-covers, mask-fits}
-use Rattle.notes.specs.Book.{Book, Entry}
+use Rattle.coverage.proofs.Laws.{mask-covers}
+use Rattle.notes.specs.Book.{Book}
 use Rattle.notes.specs.Derivation.{tripleScore, wordsScore, entryAt, jump}
-use Rattle.notes.specs.State.{Key, isFree, cover, lastTwo, nextKey, gain, keyOf}
+use Rattle.notes.specs.State.{isFree, lastTwo, nextKey, gain, keyOf}
 use Rattle.notes.specs.declared.Step.{Step}
 use Rattle.notes.specs.declared.State.{State}
 use Rattle.derivation.specs.Model.{modelScore, silent, sayOne, sayAll}

@@ -1,18 +1,18 @@
 -- What a row of target words says, one word at a time.
-use Prim.Native.Nat.{ℕ, zero, suc, _+_, _*_, _%_, _≤_, _<_}
+use Prim.Native.Nat.{ℕ, _+_, _*_, _≤_, _<_}
 use native.Mathlib.Nat.{mod-eq-of-lt}
 use native.Mathlib.Omega.{arith}
-use mathlib.Core.Path.{_≡_, refl, sym, _∙_, ap}
-use mathlib.Core.List.{List, [], _∷_}
-use lib.IntN.{ℤ, pos, _+ℤ_}
+use mathlib.Core.Path.{_≡_, ap}
+use mathlib.Core.List.{List}
+use lib.IntN.{ℤ, _+ℤ_}
 use lib.ListN.{length, getD, drop, drop-of-length-le}
-use Rattle.laws.specs.Integers.{Within, natOf}
+use Rattle.laws.specs.Integers.{Within}
 use Rattle.laws.proofs.Bounds.{within-+, within-mono}
 use Rattle.laws.proofs.Lists.{drop-next}
 use Rattle.coverage.specs.Runs.{maskOf}
 use Rattle.notes.specs.Book.{Entry}
 use Rattle.notes.specs.declared.State.{State}
-use Rattle.derivation.specs.Model.{Model, modelScore, silent, sayOne, sayAll, wordIn, WordsAt, PhraseOf}
+use Rattle.derivation.specs.Model.{modelScore, silent, sayOne, sayAll, wordIn, WordsAt}
 use Rattle.derivation.specs.Next.{jumpFrom, gainBy, nextState}
 use Rattle.derivation.specs.declared.Phrase.{Phrase}
 use Rattle.derivation.specs.declared.Task.{Task}

@@ -1,8 +1,7 @@
 // An entry of the book by its places in the loaded list.
 use crate::Phrase;
-ghost use mathlib.Core.Path.{_≡_};
-ghost use Prim.Native.Nat.{ℕ, _+_, _≤_, _<_};
-ghost use lib.ListN.{length, getD};
+ghost use Prim.Native.Nat.{_+_, _≤_};
+ghost use lib.ListN.{length};
 ghost use Rattle.notes.specs.Book.{bookOf};
 ghost use Rattle.notes.specs.Derivation.{entryAt};
 ghost use Rattle.book.specs.Entries.{EntriesAt};

@@ -1,10 +1,10 @@
 -- The place that the code makes of an option is the one that the search enters.
-use Prim.Native.Nat.{ℕ, suc, _+_, _-_, _^_, _≤_, _<_}
+use Prim.Native.Nat.{ℕ, _+_, _-_, _^_, _≤_, _<_}
 use native.Mathlib.Omega.{arith}
 use mathlib.Core.Path.{_≡_, refl, sym, _∙_, ap, subst}
-use mathlib.Core.Bool.{Bool, true}
+use mathlib.Core.Bool.{true}
 use mathlib.Core.List.{List}
-use lib.IntN.{ℤ, pos, _+ℤ_}
+use lib.IntN.{ℤ, _+ℤ_}
 use lib.ListN.{length}
 use lib.Pow.{pow-mono}
 use Rattle.laws.specs.Bits.{bitsOf}
@@ -13,15 +13,15 @@ use Rattle.laws.specs.Lists.{count}
 use Rattle.laws.proofs.Bits.{bits-length}
 use Rattle.coverage.specs.Runs.{maskOf}
 use Rattle.coverage.proofs.Laws.{mask-fits, cover-ones}
-use Rattle.notes.specs.Book.{Book, Entry, bookOf}
+use Rattle.notes.specs.Book.{Book, bookOf}
 use Rattle.notes.specs.Direction.{wordCount}
-use Rattle.notes.specs.Derivation.{entryAt, fits, jump}
-use Rattle.notes.specs.State.{Key, wordsCovered, isFree, cover, nextKey, gain, keyOf, scoreBound}
+use Rattle.notes.specs.Derivation.{entryAt, fits}
+use Rattle.notes.specs.State.{wordsCovered, isFree, cover, nextKey, gain, keyOf, scoreBound}
 use Rattle.notes.specs.declared.State.{State}
 use Rattle.notes.specs.Search.{stepAt}
 use Rattle.notes.specs.declared.Step.{Step}
 use Rattle.notes.proofs.Steps.{Fits, fits-facts, fits-size}
-use Rattle.notes.proofs.Ranges.{Ranged, loaded-ranged}
+use Rattle.notes.proofs.Ranges.{loaded-ranged}
 use Rattle.derivation.specs.Model.{PhraseOf}
 use Rattle.derivation.specs.Next.{jumpFrom, nextState, CanNext}
 use Rattle.derivation.specs.Prepared.{Prepared}

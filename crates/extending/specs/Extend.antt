@@ -7,7 +7,7 @@ use lib.ListN.{length, getD, drop}
 use Rattle.laws.specs.Bits.{bitsOf}
 use Rattle.coverage.specs.Runs.{freeRun}
 use Rattle.book.specs.Entries.{EntriesAt}
-use Rattle.notes.specs.Book.{Book, Entry, bookOf}
+use Rattle.notes.specs.Book.{Entry, bookOf}
 use Rattle.notes.specs.Direction.{wordCount}
 use Rattle.notes.specs.Search.{stepAt, fittingSteps}
 use Rattle.derivation.specs.Next.{jumpFrom, nextState, CanNext}

@@ -5,14 +5,11 @@ use states::Grown;
 use store::Added;
 use store::Place;
 ghost use mathlib.Core.Path.{_≡_};
-ghost use Prim.Native.Nat.{ℕ, _+_, _*_, _^_, _≤_, _<_};
-ghost use lib.ListN.{length, getD};
-ghost use Rattle.notes.specs.Book.{Entry};
+ghost use Prim.Native.Nat.{_+_, _^_, _<_};
+ghost use lib.ListN.{getD};
+ghost use Rattle.notes.specs.Book.{Entry, bookOf};
 ghost use Rattle.derivation.specs.Model.{Model, PhraseOf, Phrased};
 ghost use Rattle.store.specs.Store.{Indexed, Storable};
-ghost use Rattle.notes.specs.Book.{bookOf};
-ghost use Rattle.book.specs.Entries.{EntriesAt};
-ghost use Rattle.derivation.specs.Prepared.{Prepared};
 ghost use Rattle.states.specs.Ghost.{Chosen, Growing, Grew, Levelled};
 ghost use Rattle.extending.specs.Extend.{Grows, nextPlace, CanPlace, Turn, Turns, Ready, Spot};
 

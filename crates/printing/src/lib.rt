@@ -1,6 +1,5 @@
 // What the rendering program prints, a line at a time, put into a lent list of bytes from a place on, as crate `decimals` puts its
 // numbers.
-ghost use mathlib.Core.Path.{_≡_};
 ghost use mathlib.Core.List.{_∷_, [], map};
 ghost use Prim.Native.Nat.{_+_, _*_, _^_, _≤_};
 ghost use lib.IntN.{pos};

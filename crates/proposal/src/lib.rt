@@ -6,7 +6,7 @@ use notes::Refusal;
 use notes::Scored;
 use notes::State;
 ghost use mathlib.Core.Path.{_≡_};
-ghost use Prim.Native.Nat.{ℕ, _+_, _*_, _≤_, _<_};
+ghost use Prim.Native.Nat.{_+_, _*_, _≤_, _<_};
 ghost use lib.ListN.{length};
 ghost use Rattle.notes.specs.Book.{bookOf};
 ghost use Rattle.notes.specs.Direction.{wordCount};

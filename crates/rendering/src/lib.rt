@@ -3,7 +3,7 @@ ghost use mathlib.Core.Path.{_≡_};
 ghost use mathlib.Core.Bool.{_&&_};
 ghost use Prim.Native.Nat.{_≤_};
 ghost use lib.Dec.{leb};
-ghost use lib.ListN.{length, take};
+ghost use lib.ListN.{length};
 ghost use Rattle.notes.specs.Book.{bookOf};
 ghost use Rattle.notes.specs.Direction.{readDirectionRefusal};
 ghost use Rattle.notes.specs.Render.{PrintsReply, Renders};

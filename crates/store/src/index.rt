@@ -6,7 +6,7 @@ use crate::numbers;
 use crate::places;
 use notes::State;
 ghost use mathlib.Core.Path.{_≡_};
-ghost use Prim.Native.Nat.{ℕ, _+_, _*_, _/_, _%_, _<_, _≤_, min};
+ghost use Prim.Native.Nat.{_+_, _*_, _/_, _%_, _<_, _≤_, min};
 ghost use lib.ListN.{length};
 ghost use Rattle.store.specs.Store.{placeAt, headAt, linkAt, bucketOf, Relinked, Put, Storable, Indexed, IndexedAfter, Located, AddedOf, surpasses};
 

@@ -3,8 +3,7 @@ use crate::Place;
 use crate::numbers;
 use notes::State;
 ghost use mathlib.Core.Path.{_≡_};
-ghost use Prim.Native.Nat.{ℕ, _+_, _*_, _<_, _≤_};
-ghost use lib.IntN.{pos};
+ghost use Prim.Native.Nat.{_+_, _*_, _<_, _≤_};
 ghost use lib.ListN.{length};
 ghost use Rattle.store.specs.Store.{placeAt, wordsOf, Put, Spare, Storable, isSame};
 

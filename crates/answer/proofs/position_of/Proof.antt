@@ -1,9 +1,8 @@
 -- The position behind is not the last one's end, or the option would not be below that.
 use borrow.Author.Needs.{needs}
 use native.Mathlib.Omega.{arith}
-use mathlib.Core.Path.{_≡_}
-use Prim.Native.Nat.{ℕ, _+_, _-_, _≤_, _<_}
-use lib.ListN.{length, getD}
+use Prim.Native.Nat.{_+_, _-_, _≤_, _<_}
+use lib.ListN.{getD}
 use Rattle.answer.proofs.Answers.{below-end}
 use Rattle.answer.proofs.position_of.Statement.{statement}
 use Rattle.answer.proofs.position_of.Tie as tie

@@ -1,8 +1,7 @@
 -- The options that the store leads back to are the state's steps.
 use borrow.Author.Needs.{needs}
 use native.Mathlib.Omega.{arith}
-use mathlib.Core.Path.{_≡_, refl, sym, _∙_, ap, subst}
-use Prim.Native.Nat.{ℕ, _+_, _*_, _≤_}
+use mathlib.Core.Path.{_≡_, _∙_, ap}
 use mir.Val.{toZ, ofZ}
 use mir.Syntax.{w64}
 use Rattle.store.specs.declared.Place.{Place}

@@ -1,7 +1,7 @@
 -- The words of one step after another; those that are written stay.
 use borrow.Author.Needs.{needs}
 use native.Mathlib.Omega.{arith}
-use mathlib.Core.Path.{_≡_, refl, sym, _∙_, ap, subst}
+use mathlib.Core.Path.{_≡_, refl, _∙_, ap, subst}
 use Prim.Native.Nat.{ℕ, _+_, _-_, _*_, _≤_}
 use lib.ListN.{length, length-take, length-drop}
 use Rattle.notes.specs.Book.{bookOf}
@@ -9,7 +9,7 @@ use Rattle.notes.specs.Derivation.{entryAt, targetWords}
 use Rattle.notes.specs.Reply.{writtenOver}
 use Rattle.derivation.specs.Model.{PhraseOf}
 use Rattle.notes.specs.declared.Step.{Step}
-use Rattle.records.specs.Plain.{stepIn, stepsTo, stepsOf}
+use Rattle.records.specs.Plain.{stepIn, stepsTo}
 use Rattle.laws.proofs.Fill.{over-long}
 use Rattle.answer.proofs.Answers.{write-count, write-more}
 use Rattle.answer.proofs.write_words.Statement.{statement}

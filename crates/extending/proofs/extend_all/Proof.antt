@@ -2,10 +2,10 @@
 use borrow.Author.Needs.{needs}
 use native.Mathlib.Omega.{arith}
 use mathlib.Core.Path.{_≡_, refl, _∙_, subst, sym}
-use Prim.Native.Nat.{ℕ, _+_, _-_, _≤_, _<_}
+use Prim.Native.Nat.{ℕ, _-_, _≤_}
 use lib.ListN.{length, getD}
 use Rattle.notes.specs.Book.{bookOf}
-use Rattle.states.specs.Ghost.{Growing, Levelling}
+use Rattle.states.specs.Ghost.{Growing}
 use Rattle.states.proofs.Ghost.{ended}
 use Rattle.extending.proofs.Turns.{spot-of, all-done}
 use Rattle.extending.proofs.extend_all.Statement.{statement}

@@ -1,7 +1,5 @@
 -- The option is passed over where the run is too short for it, and else the search's next state is added.
 use borrow.Author.Needs.{needs}
-use Prim.Native.Nat.{_≤_}
-use native.Mathlib.Omega.{arith}
 use Rattle.notes.specs.Book.{bookOf}
 use Rattle.notes.specs.Derivation.{entryAt}
 use Rattle.extending.proofs.Turns.{turn-skips, turn-can, turn-storable, turn-grows}

@@ -1,7 +1,6 @@
 -- What is asked before gives the refusal, or the lists that the search needs.
 use borrow.Author.Needs.{needs}
 use native.Mathlib.Omega.{arith}
-use mathlib.Core.Path.{_≡_, refl, sym, _∙_, ap, subst}
 use mir.Facts.{toZ-ofZ}
 use Rattle.plain.proofs.Whole.{refused-core}
 use borrow.Author.Needs.{needs}

@@ -1,7 +1,6 @@
 -- Where no place covers every word there is no answer; else the best place's state is the answer.
 use borrow.Author.Needs.{needs}
-use native.Mathlib.Omega.{arith}
-use mathlib.Core.Path.{_≡_, refl, sym, _∙_, ap, subst}
+use mathlib.Core.Path.{_≡_, refl, _∙_, ap}
 use Rattle.decoder.proofs.Deciding.{last-ends, told-all, found-is, concluded-by}
 use Rattle.decoder.specs.Core.{refusedBy, noAnswer}
 use mir.Val.{toZ, ofZ}

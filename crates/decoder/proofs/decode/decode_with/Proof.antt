@@ -1,18 +1,15 @@
 -- The questions in their order; then the lists of the search are ready.
 use borrow.Author.Needs.{needs}
-use borrow.Author.Tests.{not-true, not-false, leb-true}
+use borrow.Author.Tests.{not-true, not-false}
 use native.Mathlib.Omega.{arith}
-use mathlib.Core.Path.{_≡_, refl, sym, _∙_, ap, subst}
-use mathlib.Core.Bool.{Bool, true, false, _&&_}
-use Prim.Native.Nat.{ℕ, _*_, _≤_}
-use lib.Dec.{leb}
-use lib.IntN.{ℤ, negsuc}
+use mathlib.Core.Path.{_≡_, refl, _∙_}
+use mathlib.Core.Bool.{true, false}
+use lib.IntN.{negsuc}
 use lib.ListN.{length}
 use lib.Signed.{leZ}
 use mir.Val.{toZ, ofZ}
 use mir.Syntax.{w64}
 use Rattle.laws.proofs.Linear.{signed}
-use Rattle.laws.proofs.Tests.{both}
 use Rattle.notes.specs.Direction.{wordCount}
 use Rattle.notes.proofs.Demands.{direction-to}
 use Rattle.decoder.proofs.Replies.{refuses-11, refuses-12, searches, made-ready, room-is, room-both}

@@ -1,9 +1,8 @@
 -- No steps, and the refusal.
 use borrow.Author.Needs.{needs}
-use mathlib.Core.Path.{_≡_, ap}
+use mathlib.Core.Path.{ap}
 use Rattle.notes.specs.declared.Decoded.the-variants.{Refused}
 use Rattle.records.specs.declared.Plain.{Plain}
-use Rattle.answer.specs.declared.Core.{Core}
 use borrow.Author.Needs.{needs}
 use Rattle.decoder.proofs.decode.refused.Statement.{statement}
 use Rattle.decoder.proofs.decode.refused.Tie as tie

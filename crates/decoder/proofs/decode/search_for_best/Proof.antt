@@ -1,11 +1,9 @@
 -- The store is empty before the search; where it overflows or the search is over, it is cleared.
 use borrow.Author.Needs.{needs}
-use native.Mathlib.Omega.{arith}
-use mathlib.Core.Path.{_≡_, refl, sym, _∙_, ap, subst}
-use mathlib.Core.List.{List}
-use Prim.Native.Nat.{ℕ, _/_, _≤_, _<_}
-use lib.IntN.{ℤ, pos}
-use lib.ListN.{length, replicate}
+use mathlib.Core.Path.{refl, sym, _∙_, ap}
+use Prim.Native.Nat.{ℕ}
+use lib.IntN.{pos}
+use lib.ListN.{replicate}
 use Rattle.decoder.proofs.Deciding.{too-small, large-enough, places-fit, places-lack}
 use borrow.Author.Needs.{needs}
 use Rattle.decoder.proofs.decode.search_for_best.Statement.{statement}

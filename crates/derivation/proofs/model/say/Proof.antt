@@ -1,13 +1,13 @@
 -- What is left of the row, said after what was said so far, is the whole row's saying; after j words the score is within j million.
 use borrow.Author.Needs.{needs}
-use Prim.Native.Nat.{ℕ, _+_, _*_, _-_, _≤_, _<_}
-use mathlib.Core.Path.{_≡_, refl, sym, _∙_, ap}
+use Prim.Native.Nat.{_*_, _-_, _≤_, _<_}
+use mathlib.Core.Path.{_≡_, refl, sym, _∙_}
 use native.Mathlib.Omega.{arith}
-use lib.ListN.{length, drop}
+use lib.ListN.{drop}
 use Rattle.laws.specs.Integers.{Within}
 use Rattle.laws.proofs.Bounds.{within-mono}
 use Rattle.notes.specs.Book.{Entry}
-use Rattle.derivation.specs.Model.{silent, sayOne, sayAll, PhraseOf}
+use Rattle.derivation.specs.Model.{silent, sayAll, PhraseOf}
 use Rattle.derivation.proofs.Says.{word-is, say-next, say-end, say-within}
 use Rattle.derivation.proofs.model.say.Statement.{statement}
 use Rattle.derivation.proofs.model.say.Tie as tie

@@ -1,9 +1,9 @@
 -- Each field of the new state is what the call before it gave.
 use borrow.Author.Needs.{needs}
-use Prim.Native.Nat.{ℕ, _+_, _≤_}
-use mathlib.Core.Path.{_≡_, refl, sym, _∙_, subst}
+use Prim.Native.Nat.{_+_}
+use mathlib.Core.Path.{_≡_, sym, subst}
 use native.Mathlib.Omega.{arith}
-use lib.IntN.{ℤ, _+ℤ_}
+use lib.IntN.{_+ℤ_}
 use mir.Syntax.{w64}
 use Rattle.laws.specs.Integers.{Within}
 use Rattle.laws.proofs.Got.{Got, i64, held, add, fits, kept}
