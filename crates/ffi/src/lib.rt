@@ -94,7 +94,7 @@ pub extern "C" fn phrase_score(
     ensures { λ _. ⌜ now (report .exit) ≡ filledWith (scoreReport (scoreProposal (now (book .entry)) (now (direction .entry)) (recordsIn (now (steps .entry))))) (now (report .entry)) ⌝ }
 {
     let plain = lists::steps::gather(steps);
-    match plain::score_plain(book, direction, plain) {
+    match scoring::score_plain(book, direction, plain) {
         Scored::Score(score) => {
             lists::report::put_score(report, score);
             0

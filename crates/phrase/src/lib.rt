@@ -11,7 +11,7 @@ pub fn score(book: &[i32], direction: &[u16], steps: &[Step]) -> Scored
     ensures { λ r. ⌜ scoredReply r ≡ scoreProposal (now (book .entry)) (now (direction .entry)) (now (steps .entry)) ⌝ }
 {
     let plain = records::gather(steps);
-    plain::score_plain(book, direction, plain)
+    scoring::score_plain(book, direction, plain)
 }
 
 // "Decoding, after 2 to 6, 9 and 10": 11 to 15, and the answer where none refuses. Width -1 is pruning off; a store of 8 numbers

@@ -1,2 +1,1 @@
-pub mod Scoring
 pub mod Whole

@@ -19,7 +19,7 @@ use Rattle.ffi.proofs.phrase_score.Lts as lts
 use Rattle.ffi.proofs.code_of.Reads as code-of-reads
 use Rattle.lists.proofs.report.put_score.Reads as put-score-reads
 use Rattle.lists.proofs.steps.gather.Reads as gather-reads
-use Rattle.plain.proofs.score_plain.Reads as score-plain-reads
+use Rattle.scoring.proofs.score_plain.Reads as score-plain-reads
 
 gather-requires : tie.Need-gather-requires
 gather-requires c κs = search needs

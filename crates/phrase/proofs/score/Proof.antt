@@ -51,10 +51,10 @@ use Rattle.records.proofs.gather as p
 use Rattle.records.proofs.gather.Symbol as p-def
 use Rattle.records.proofs.gather.Symbol.{name as #records·gather}
 use Rattle.records.proofs.gather.Met as p-thm
-use Rattle.plain.proofs.score_plain as g
-use Rattle.plain.proofs.score_plain.Symbol as g-def
-use Rattle.plain.proofs.score_plain.Symbol.{name as #plain·score-plain}
-use Rattle.plain.proofs.score_plain.Met as g-thm
+use Rattle.scoring.proofs.score_plain as g
+use Rattle.scoring.proofs.score_plain.Symbol as g-def
+use Rattle.scoring.proofs.score_plain.Symbol.{name as #scoring·score-plain}
+use Rattle.scoring.proofs.score_plain.Met as g-thm
 use Rattle.phrase.proofs.score.Key.{name as #this}
 use Rattle.phrase.proofs.score as f
 use Rattle.phrase.proofs.score.Statement as stated
@@ -151,7 +151,7 @@ module _ {M : Type 1} (𝓤 : URA M) (H : Heap 𝓤) (A : Atoms 𝓤) (W : Given
       -- [true; what the slices own; the result]
       move ! (3 ∷ 0 ∷ []) $ fjoin ! $ move ! (2 ∷ 0 ∷ []) $ fjoin ! $ move ! (1 ∷ 0 ∷ []) $ fjoin ! $ frame ! $ done !
 
-  module _ (C : Calls 𝓤 H) (Λ : Loops 𝓤 H) (fm : FmC 𝓤 H (W .laws) C) (known-gather : Triple 𝓤 (C #records·gather) (Gather 𝓤 H A mem run)) (known-core : Triple 𝓤 (C #plain·score-plain) (Core 𝓤 H A mem run)) where
+  module _ (C : Calls 𝓤 H) (Λ : Loops 𝓤 H) (fm : FmC 𝓤 H (W .laws) C) (known-gather : Triple 𝓤 (C #records·gather) (Gather 𝓤 H A mem run)) (known-core : Triple 𝓤 (C #scoring·score-plain) (Core 𝓤 H A mem run)) where
     walk : ent 𝓤 (onEntry 𝓤 H A f.signature (κ₀, (κ₁, (κ₂, tt))) (q₀, (q₁, (q₂, tt))) a at) (WpFn 𝓤 H C Λ code.function (v₀ ∷ v₁ ∷ v₂ ∷ []) Post)
     walk =
         qed W ((‵ (flft κ₀ q₀) ⊛ ‵ (flft κ₁ q₁) ⊛ ‵ (flft κ₂ q₂) ⊛ ‵ ftrue) ∷ ‵ (owns (ShrSlice (named 0) κ₀ i32 ∷ ShrSlice (named 1) κ₁ u16 ∷ ShrSlice (named 2) κ₂ T.the-row ∷ []) a at) ∷ []) ∵
@@ -185,7 +185,7 @@ module _ {M : Type 1} (𝓤 : URA M) (H : Heap 𝓤) (A : Atoms 𝓤) (W : Given
         keep ! (1 ∷ 4 ∷ 3 ∷ 2 ∷ 5 ∷ 0 ∷ []) $ by ! (exits y u (gathered-decide (bk .now) (dr .now) (st .now) r y e e′)))))))))))))))
 
 module _ {M : Type 1} (𝓤 : URA M) (H : Heap 𝓤) (A : Atoms 𝓤) (W : Given 𝓤 H A) (mem : Memory → SProp 𝓤) (run : Routine → Fun 𝓤) (𝓣 : Tables 𝓤 H)
-    (known-gather : Triple 𝓤 (𝓣 .C #records·gather) (Gather 𝓤 H A mem run)) (known-core : Triple 𝓤 (𝓣 .C #plain·score-plain) (Core 𝓤 H A mem run)) where
+    (known-gather : Triple 𝓤 (𝓣 .C #records·gather) (Gather 𝓤 H A mem run)) (known-core : Triple 𝓤 (𝓣 .C #scoring·score-plain) (Core 𝓤 H A mem run)) where
   walks : Walks 𝓤 H A f.ended stayed (WpFn 𝓤 H (𝓣 .C) (𝓣 .Λ) code.function) (f.clauses 𝓤 H A mem run)
   walks = walked 𝓤 H A f.ended stayed (f.clauses 𝓤 H A mem run) (WpFn 𝓤 H (𝓣 .C) (𝓣 .Λ) code.function)
       (λ κs. (slice-vals, (slice-vals, (slice-vals, tt)))) (λ κs. (shr-slice-tells (named 0) (κs .0) i32, (shr-slice-tells (named 1) (κs .1 .0) u16, (shr-slice-tells (named 2) (κs .1 .1 .0) T.the-row, tt))))
@@ -205,4 +205,4 @@ score-spec 𝓤 H 𝓜 𝓖 𝓡 =
     (tables 𝓤 H 𝓜 𝓡 code.env .C) (tables 𝓤 H 𝓜 𝓡 code.env .Λ) #this code.function (code.unfolded 𝓤 H 𝓜 𝓡)
     (meets 𝓤 H (𝓖 .A) (givenOf 𝓤 H 𝓜 𝓖) (𝓜 .mem) (𝓡 .run) (tablesOf 𝓤 H 𝓜 (tables 𝓤 H 𝓜 𝓡 code.env))
     (cited 𝓤 H (Gather 𝓤 H (𝓖 .A) (𝓜 .mem) (𝓡 .run)) 𝓜 𝓡 code.env #records·gather p-def.routine code.calls-records·gather (p-thm.met 𝓤 H 𝓜 𝓖 𝓡))
-    (cited 𝓤 H (Core 𝓤 H (𝓖 .A) (𝓜 .mem) (𝓡 .run)) 𝓜 𝓡 code.env #plain·score-plain g-def.routine code.calls-plain·score-plain (g-thm.met 𝓤 H 𝓜 𝓖 𝓡)))
+    (cited 𝓤 H (Core 𝓤 H (𝓖 .A) (𝓜 .mem) (𝓡 .run)) 𝓜 𝓡 code.env #scoring·score-plain g-def.routine code.calls-scoring·score-plain (g-thm.met 𝓤 H 𝓜 𝓖 𝓡)))

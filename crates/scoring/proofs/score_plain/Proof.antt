@@ -5,9 +5,9 @@ use native.Mathlib.Omega.{arith}
 use lib.ListN.{length, length-map}
 use Rattle.notes.specs.Reply.{scoredReply}
 use Rattle.records.specs.Plain.{stepsOf}
-use Rattle.plain.proofs.Scoring.{scored-last, refused-before}
-use Rattle.plain.proofs.score_plain.Statement.{statement}
-use Rattle.plain.proofs.score_plain.Tie as tie
+use Rattle.scoring.proofs.Scoring.{scored-last, refused-before}
+use Rattle.scoring.proofs.score_plain.Statement.{statement}
+use Rattle.scoring.proofs.score_plain.Tie as tie
 
 slice-aggregate-prepare : tie.Need-slice-aggregate-prepare
 slice-aggregate-prepare c = search needs
