@@ -1,3 +1,4 @@
+-- The meaning of document 01, in the order in which it is best read.
 pub mod Questions
 pub mod Numerals
 pub mod Book
