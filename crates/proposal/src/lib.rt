@@ -17,6 +17,7 @@ ghost use Rattle.book.specs.Entries.{EntriesAt};
 ghost use Rattle.derivation.specs.Prepared.{Prepared};
 ghost use Rattle.proposal.specs.Proposal.{stepOf, stepsIn, Ready, AskedOf};
 
+// What is asked of a proposed step: the state that it leads to, or the question that refuses it.
 pub enum Asked {
     Next(State),
     Refused(Refusal),
