@@ -1,0 +1,6 @@
+pub mod Parts
+pub mod Keys
+pub mod Index
+pub mod Differ
+pub mod Scores
+pub mod Lines

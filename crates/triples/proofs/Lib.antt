@@ -1,4 +1,0 @@
-pub mod Records
-pub mod Index
-pub mod Scores
-pub mod Lines
