@@ -1,5 +1,6 @@
 pub mod Parts
 pub mod Keys
+pub mod Records
 pub mod Index
 pub mod Differ
 pub mod Scores

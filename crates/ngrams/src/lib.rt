@@ -15,8 +15,9 @@ ghost use Rattle.ngrams.specs.Grams.{recordAt, keyAt, keysIn, triplesIn,
 const BUCKETS: usize = 8192;
 const LINKS: usize = 8192;
 
-// Where the records begin, how many numbers each has, and where they end.
+// Where the records begin, how many there may be, how many numbers each has, and where they end.
 const RECORDS: usize = 16384;
+pub const RECORDS_MOST: usize = 8192;
 const RECORD_SIZE: usize = 4;
 pub const RECORDS_END: usize = 49152;
 

@@ -17,7 +17,7 @@ use Rattle.text.specs.declared.TextLine.{TextLine}
 use Rattle.fields.proofs.Form.{book-text, book-run}
 use Rattle.text.proofs.Lines.{At, at-start, at-end, loaded-end}
 use Rattle.text.proofs.InRow.{NextRow, next-row, emit-few}
-use Rattle.text.proofs.Whole.{four-numbers}
+use Rattle.notes.proofs.Sizes.{four-numbers}
 use Rattle.book.specs.declared.survey.Survey.{Survey}
 use Rattle.book.specs.Survey.{fresh, withLine, surveyFrom, Few}
 use Rattle.book.specs.Grams.{withGram, gramsFrom}

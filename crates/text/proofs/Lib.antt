@@ -1,5 +1,4 @@
 pub mod Numbers
 pub mod Row
 pub mod Lines
-pub mod Whole
 pub mod InRow
