@@ -13,22 +13,10 @@ use Rattle.laws.specs.Integers.{eqℤ}
 use Rattle.laws.specs.Lists.{all}
 use Rattle.laws.proofs.Tests.{by-test, clash}
 use Rattle.notes.specs.Book.{numberAt, naturalAt, isB, isP, isT, isPhraseLength, sizeOf, isWhole, cutLines, loadedLines}
+use Rattle.notes.proofs.Sizes.{size-from}
 use Rattle.book.specs.Loaded.{sizeAt}
 
 -- ---- the size
-
--- no kind takes fewer than four numbers
-size-from : (line : List ℤ) (s : ℕ) → sizeOf line ≡ suc s → 4 ≤ suc s
-unfolding sizeOf
-size-from line s e =
-    by (isB line) (isP line) (isT line) (isPhraseLength (numberAt line 1) && isPhraseLength (numberAt line 2)) (naturalAt line 1 + naturalAt line 2) e
-  where
-    by : (b p t l : Bool) (n : ℕ) → cond b 4 (cond p (cond l (n + 4) 0) (cond t 5 0)) ≡ suc s → 4 ≤ suc s
-    by true p t l n e = omega arith
-    by false true t true n e = omega arith
-    by false true t false n e = absurd (omega arith)
-    by false false true l n e = omega arith
-    by false false false l n e = absurd (omega arith)
 
 -- it is seen from the first three numbers
 size-same : (l m : List ℤ) → numberAt l 0 ≡ numberAt m 0 → numberAt l 1 ≡ numberAt m 1 → numberAt l 2 ≡ numberAt m 2 → sizeOf l ≡ sizeOf m
@@ -131,10 +119,10 @@ line-at loaded at (suc s) h e n =
         let size : sizeOf (drop at loaded) ≡ suc s = sym (e ∙ rw t) in
         let fits = leb-true (sizeOf (drop at loaded)) (length loaded - at) t in
         let long = length-drop at loaded in
-        let four = size-from (drop at loaded) s size in
+        let four = size-from (drop at loaded) (λ z. omega arith) in
         record {
           inside = omega arith;
-          some = four;
+          some = omega arith;
           size-is = size;
           lines = lines-some (drop at loaded) s (omega arith) size ∙ rw (drop-drop (suc s) at loaded);
           whole = whole-is (take (suc s) (drop at loaded)) s (length-take-le (suc s) (drop at loaded) (omega arith)) (size-take (suc s) (drop at loaded) (omega arith) ∙ size);

@@ -4,3 +4,4 @@ pub mod Cuts
 pub mod Walk
 pub mod Places
 pub mod Sought
+pub mod Length

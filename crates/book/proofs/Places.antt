@@ -17,7 +17,9 @@ use Rattle.laws.proofs.Tests.{by-test, both}
 use Rattle.notes.specs.Book.{Entry, numberAt, naturalAt, isP, isWord, isWhole, isInRange, isNotTooLong, wordsAt, entryOf, bookOf, bookOfLines, bookRefusal, loadedLines}
 use Rattle.notes.specs.Derivation.{noEntry}
 use Rattle.notes.proofs.Ranges.{lines-passed, PLine, p-line}
-use Rattle.book.specs.Entries.{EntryAt, EntriesAt, withPlace}
+use Rattle.ngrams.specs.Parts.{naturalIn, KeptBelow}
+use Rattle.ngrams.proofs.Parts.{below-all, below-set}
+use Rattle.book.specs.Entries.{EntryAt, entriesMost, entriesFrom, indexSize, entryPlace, EntriesAt, withPlace}
 use Rattle.book.proofs.Cuts.{LineAt, lines-end, line-number, line-long, kind-same}
 
 -- ---- a line's numbers, read in the list
@@ -112,20 +114,30 @@ module _ (loaded : List ℤ) (at size : ℕ) (l : LineAt loaded at size) (p : is
             subst (Within 1_000_000) (ap (numberAt (take size (drop at loaded))) q ∙ line-number loaded at size (3 + naturalAt loaded (at + 1) + naturalAt loaded (at + 2)) (omega (arith, size-is))) (facts .score-within);
       }
 
+-- ---- one place that is noted
+
+place-same : (index : List ℤ) (count at : ℕ) → entriesFrom + count < length index → entryPlace (set index (entriesFrom + count) (pos at)) count ≡ at
+unfolding entryPlace naturalIn
+place-same index count at h = ap natOf (getD-set-same index (entriesFrom + count) (pos at) (pos 0) h)
+
+place-other : (index : List ℤ) (count k at : ℕ) → (k ≡ count → ⊥) → entryPlace (set index (entriesFrom + count) (pos at)) k ≡ entryPlace index k
+unfolding entryPlace naturalIn
+place-other index count k at n = ap natOf (getD-set-other index (entriesFrom + count) (entriesFrom + k) (pos at) (pos 0) (omega (arith, n)))
+
 -- ---- the walk: the places of the P lines before `at` are found
 
-pub record Found (loaded : List ℤ) (places : List ℕ) (count at : ℕ) : Type 0 where
+pub record Found (loaded : List ℤ) (index : List ℤ) (count at : ℕ) : Type 0 where
   pub inside : at ≤ length loaded
   pub some : count ≤ length (keep isP (loadedLines loaded))
-  pub few : length (keep isP (loadedLines loaded)) ≤ 4_096
+  pub few : length (keep isP (loadedLines loaded)) ≤ entriesMost
   pub tail : drop count (keep isP (loadedLines loaded)) ≡ keep isP (loadedLines (drop at loaded))
   pub whole : all isWhole (loadedLines (drop at loaded)) ≡ true
   pub ranged : all isInRange (loadedLines (drop at loaded)) ≡ true
-  pub each : (k : ℕ) → k < count → EntryAt loaded (getD places k 0) (entryOf (getD (keep isP (loadedLines loaded)) k []))
+  pub each : (k : ℕ) → k < count → EntryAt loaded (entryPlace index k) (entryOf (getD (keep isP (loadedLines loaded)) k []))
 
-pub found-start : (loaded : List ℤ) (places : List ℕ) → bookRefusal loaded ≡ 0 → Found loaded places 0 0
+pub found-start : (loaded : List ℤ) (index : List ℤ) → bookRefusal loaded ≡ 0 → Found loaded index 0 0
 unfolding bookRefusal isNotTooLong
-found-start loaded places e =
+found-start loaded index e =
     let p = lines-passed (loadedLines loaded) e in
     let few = leb-true (count isP (loadedLines loaded)) 4_096 (both (leb (count isP (loadedLines loaded)) 4_096) _ (p .short) .0) in
     record {
@@ -138,7 +150,7 @@ found-start loaded places e =
       each = λ k h. absurd (omega arith);
     }
 
-module _ {loaded : List ℤ} {places : List ℕ} {count at size : ℕ} (f : Found loaded places count at) (l : LineAt loaded at size) where
+module _ {loaded : List ℤ} {index : List ℤ} {count at size : ℕ} (f : Found loaded index count at) (l : LineAt loaded at size) where
   split : all isInRange (loadedLines (drop at loaded)) ≡ isInRange (take size (drop at loaded)) && all isInRange (loadedLines (drop (at + size) loaded))
   split = ap (all isInRange) (l .lines)
 
@@ -169,16 +181,16 @@ module _ {loaded : List ℤ} {places : List ℕ} {count at size : ℕ} (f : Foun
   tail-next : isP (drop at loaded) ≡ true → drop (count + 1) (keep isP (loadedLines loaded)) ≡ keep isP (loadedLines (drop (at + size) loaded))
   tail-next p = sym (drop-drop 1 count (keep isP (loadedLines loaded))) ∙ ap (drop 1) (next-p p)
 
-  each-next : isP (drop at loaded) ≡ true → 4_096 ≤ length places → (k : ℕ) → k < count + 1 → EntryAt loaded (getD (set places count at) k 0) (entryOf (getD (keep isP (loadedLines loaded)) k []))
+  each-next : isP (drop at loaded) ≡ true → indexSize ≤ length index → (k : ℕ) → k < count + 1 → EntryAt loaded (entryPlace (set index (entriesFrom + count) (pos at)) k) (entryOf (getD (keep isP (loadedLines loaded)) k []))
   each-next p h k m =
       by-test (eqb k count)
       (λ t. let e : k ≡ count = eqb-true k count t in
-      let room : count < length places = omega (arith, found-room p, f .few) in
-      rw (e, getD-set-same places count at 0 room, entry-next p)
+      let room : entriesFrom + count < length index = omega (arith, found-room p, f .few) in
+      rw (e, place-same index count at room, entry-next p)
       (entry-at loaded at size l (kind-same loaded at size l ∙ p) range-here))
-      (λ n. rw (getD-set-other places count k at 0 (eqb-false k count n)) (f .each k (let q = eqb-false k count n in omega (arith, q))))
+      (λ n. rw (place-other index count k at (eqb-false k count n)) (f .each k (let q = eqb-false k count n in omega (arith, q))))
 
-  pub found-next : 4_096 ≤ length places → Found loaded (withPlace loaded at places count) (count + one (isP (drop at loaded))) (at + size)
+  pub found-next : indexSize ≤ length index → Found loaded (withPlace loaded at index count) (count + one (isP (drop at loaded))) (at + size)
   unfolding withPlace
   found-next h =
       by-test (isP (drop at loaded))
@@ -207,13 +219,14 @@ no-entry : entryOf [] ≡ noEntry
 unfolding entryOf
 no-entry = refl
 
-pub found-end : {loaded : List ℤ} {places : List ℕ} {count at : ℕ} → Found loaded places count at → length loaded ≤ at → EntriesAt loaded places count
+pub found-end : {loaded : List ℤ} {index : List ℤ} {count at : ℕ} → Found loaded index count at → length loaded ≤ at → indexSize ≤ length index → EntriesAt loaded index count
 unfolding bookOf bookOfLines
-found-end {loaded} {places} {count} {at} f h =
+found-end {loaded} {index} {count} {at} f h room =
     let none : drop count (keep isP (loadedLines loaded)) ≡ [] = f .tail ∙ ap (λ (l : List ℤ). keep isP (loadedLines l)) (drop-of-length-le loaded h) ∙ ap (keep isP) lines-end in
     record {
       counted = omega (arith, length-drop count (keep isP (loadedLines loaded)), ap length none, f .some, length-map (keep isP (loadedLines loaded)) entryOf);
       few = omega (arith, f .some, f .few);
+      room = room;
       each = λ k m.
           let e : getD (map entryOf (keep isP (loadedLines loaded))) k noEntry ≡ entryOf (getD (keep isP (loadedLines loaded)) k []) =
           ap (getD (map entryOf (keep isP (loadedLines loaded))) k) (sym no-entry) ∙ List·getD-map entryOf (keep isP (loadedLines loaded)) k [] in
@@ -222,12 +235,20 @@ found-end {loaded} {places} {count} {at} f h =
 
 -- ---- what code puts
 
-pub place-put : (loaded : List ℤ) (at : ℕ) (places : List ℕ) (count : ℕ) → isP (drop at loaded) ≡ true
-    → (count + 1 ≡ count + one (isP (drop at loaded))) × (set places count at ≡ withPlace loaded at places count)
+pub place-put : (loaded : List ℤ) (at : ℕ) (index : List ℤ) (count : ℕ) → isP (drop at loaded) ≡ true
+    → (count + 1 ≡ count + one (isP (drop at loaded))) × (set index (entriesFrom + count) (pos at) ≡ withPlace loaded at index count)
 unfolding withPlace
-place-put loaded at places count p = (rw p, rw p)
+place-put loaded at index count p = (rw p, rw p)
 
-pub place-not : (loaded : List ℤ) (at : ℕ) (places : List ℕ) (count : ℕ) → isP (drop at loaded) ≡ false
-    → (count ≡ count + one (isP (drop at loaded))) × (places ≡ withPlace loaded at places count)
+pub place-not : (loaded : List ℤ) (at : ℕ) (index : List ℤ) (count : ℕ) → isP (drop at loaded) ≡ false
+    → (count ≡ count + one (isP (drop at loaded))) × (index ≡ withPlace loaded at index count)
 unfolding withPlace
-place-not loaded at places count p = (rw p (omega arith), rw p)
+place-not loaded at index count p = (rw p (omega arith), rw p)
+
+-- what stands before the places is kept
+pub place-kept : (loaded index : List ℤ) (at count : ℕ) → KeptBelow entriesFrom index (withPlace loaded at index count)
+unfolding withPlace
+place-kept loaded index at count =
+    by-test (isP (drop at loaded))
+    (λ t. rw t (below-set index (entriesFrom + count) (pos at) (omega arith)))
+    (λ f. rw f (below-all entriesFrom index))

@@ -15,43 +15,43 @@ use Rattle.book.proofs.Counts.{few-line, few-more}
 use Rattle.book.proofs.Triples.{gram-long}
 use Rattle.book.proofs.Cuts.{LineAt, lines-end}
 
--- the invariant: the lines before `at` were noted in `acc` and `grams`
-pub record Walked (loaded grams₀ : List ℤ) (acc : Survey) (grams : List ℤ) (at : ℕ) : Type 0 where
+-- the invariant: the lines before `at` were noted in `acc` and `index`
+pub record Walked (loaded index₀ : List ℤ) (acc : Survey) (index : List ℤ) (at : ℕ) : Type 0 where
   pub inside : at ≤ length loaded
   pub few : Few acc at
-  pub long : length grams ≡ length grams₀
+  pub long : length index ≡ length index₀
   pub surveyed : surveyFrom acc (loadedLines (drop at loaded)) ≡ surveyFrom fresh (loadedLines loaded)
-  pub gathered : gramsFrom grams (acc .ts) (loadedLines (drop at loaded)) ≡ gramsFrom grams₀ 0 (loadedLines loaded)
+  pub gathered : gramsFrom index (acc .ts) (loadedLines (drop at loaded)) ≡ gramsFrom index₀ 0 (loadedLines loaded)
   pub asked : all isWhole (loadedLines (drop at loaded)) ≡ all isWhole (loadedLines loaded)
 
-pub walk-start : (loaded grams : List ℤ) → Walked loaded grams fresh grams 0
-walk-start loaded grams = record { inside = omega arith; few = omega arith; long = refl; surveyed = refl; gathered = refl; asked = refl }
+pub walk-start : (loaded index : List ℤ) → Walked loaded index fresh index 0
+walk-start loaded index = record { inside = omega arith; few = omega arith; long = refl; surveyed = refl; gathered = refl; asked = refl }
 
-pub walk-next : {loaded grams₀ grams : List ℤ} {acc : Survey} {at size : ℕ} → Walked loaded grams₀ acc grams at → LineAt loaded at size
-    → Walked loaded grams₀ (withLine acc (take size (drop at loaded))) (withGram grams (acc .ts) (take size (drop at loaded))) (at + size)
+pub walk-next : {loaded index₀ index : List ℤ} {acc : Survey} {at size : ℕ} → Walked loaded index₀ acc index at → LineAt loaded at size
+    → Walked loaded index₀ (withLine acc (take size (drop at loaded))) (withGram index (acc .ts) (take size (drop at loaded))) (at + size)
 unfolding surveyFrom gramsFrom withLine
-walk-next {loaded} {grams₀} {grams} {acc} {at} {size} w l =
+walk-next {loaded} {index₀} {index} {acc} {at} {size} w l =
     record {
       inside = l .inside;
       few = few-more (few-line acc (take size (drop at loaded)) at (w .few)) (omega (arith, l .some));
-      long = gram-long grams (take size (drop at loaded)) (acc .ts) ∙ w .long;
+      long = gram-long index (take size (drop at loaded)) (acc .ts) ∙ w .long;
       surveyed = sym (ap (surveyFrom acc) (l .lines)) ∙ w .surveyed;
-      gathered = sym (ap (gramsFrom grams (acc .ts)) (l .lines)) ∙ w .gathered;
+      gathered = sym (ap (gramsFrom index (acc .ts)) (l .lines)) ∙ w .gathered;
       asked = sym (ap (all isWhole) (l .lines) ∙ rw (l .whole)) ∙ w .asked;
     }
 
 -- what the walk has at the end of the list
-pub record Done (loaded grams₀ : List ℤ) (acc : Survey) (grams : List ℤ) : Type 0 where
+pub record Done (loaded index₀ : List ℤ) (acc : Survey) (index : List ℤ) : Type 0 where
   pub whole : all isWhole (loadedLines loaded) ≡ true
   pub surveyed : acc ≡ surveyFrom fresh (loadedLines loaded)
-  pub gathered : grams ≡ gramsFrom grams₀ 0 (loadedLines loaded)
+  pub gathered : index ≡ gramsFrom index₀ 0 (loadedLines loaded)
 
-pub walk-end : {loaded grams₀ grams : List ℤ} {acc : Survey} {at : ℕ} → Walked loaded grams₀ acc grams at → length loaded ≤ at → Done loaded grams₀ acc grams
+pub walk-end : {loaded index₀ index : List ℤ} {acc : Survey} {at : ℕ} → Walked loaded index₀ acc index at → length loaded ≤ at → Done loaded index₀ acc index
 unfolding surveyFrom gramsFrom
-walk-end {loaded} {grams₀} {grams} {acc} {at} w h =
+walk-end {loaded} {index₀} {index} {acc} {at} w h =
     let none : loadedLines (drop at loaded) ≡ [] = ap loadedLines (drop-of-length-le loaded h) ∙ lines-end in
     record {
       whole = sym (w .asked) ∙ ap (all isWhole) none;
       surveyed = sym (ap (surveyFrom acc) none) ∙ w .surveyed;
-      gathered = sym (ap (gramsFrom grams (acc .ts)) none) ∙ w .gathered;
+      gathered = sym (ap (gramsFrom index (acc .ts)) none) ∙ w .gathered;
     }

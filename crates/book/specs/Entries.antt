@@ -3,11 +3,12 @@ use Prim.Native.Nat.{ℕ, _+_, _≤_, _<_}
 use mathlib.Core.Path.{_≡_}
 use mathlib.Core.Bool.{true, cond}
 use mathlib.Core.List.{List}
-use lib.IntN.{ℤ}
+use lib.IntN.{ℤ, pos}
 use lib.ListN.{length, getD, set, drop}
 use Rattle.laws.specs.Integers.{Within}
 use Rattle.notes.specs.Book.{Entry, numberAt, naturalAt, isP, isWord, wordsAt, entryOf, bookOf}
 use Rattle.notes.specs.Derivation.{noEntry}
+use Rattle.ngrams.specs.Parts.{recordsEnd, naturalIn, KeptBelow}
 
 -- the P line of an entry stands at `at`: a and b, then the a source words, the b target words, and g
 pub record EntryAt (loaded : List ℤ) (at : ℕ) (entry : Entry) : Type 0 where
@@ -23,12 +24,34 @@ pub record EntryAt (loaded : List ℤ) (at : ℕ) (entry : Entry) : Type 0 where
   pub words : (j : ℕ) → j < naturalAt loaded (at + 1) + naturalAt loaded (at + 2) → isWord (numberAt loaded (at + (3 + j))) ≡ true
   pub g-within : Within 1_000_000 (numberAt loaded (at + (3 + naturalAt loaded (at + 1) + naturalAt loaded (at + 2))))
 
--- `places` holds where each of them stands, in their order
-pub record EntriesAt (loaded : List ℤ) (places : List ℕ) (count : ℕ) : Type 0 where
-  pub counted : count ≡ length (bookOf loaded .entries)
-  pub few : count ≤ 4_096
-  pub each : (k : ℕ) → k < count → EntryAt loaded (getD places k 0) (getD (bookOf loaded .entries) k noEntry)
+-- ---- the part of the one list behind the records: where each entry stands in the loaded book
 
--- the list of places after one line more: where a P line stands at `at`, its place is put behind the `count` before it
-unfoldable pub withPlace : List ℤ → ℕ → List ℕ → ℕ → List ℕ
-withPlace loaded at places count = cond (isP (drop at loaded)) (set places count at) places
+-- how many there may be (question 5), where the part begins, and how long the list is with it
+abbrev pub entriesMost : ℕ
+entriesMost = 4_096
+
+abbrev pub entriesFrom : ℕ
+entriesFrom = recordsEnd
+
+abbrev pub indexSize : ℕ
+indexSize = entriesFrom + entriesMost
+
+-- the place of entry k, counted from 0
+unfoldable pub entryPlace : List ℤ → ℕ → ℕ
+entryPlace index k = naturalIn index (entriesFrom + k)
+
+-- it has the place of each of them, in their order
+pub record EntriesAt (loaded index : List ℤ) (count : ℕ) : Type 0 where
+  pub counted : count ≡ length (bookOf loaded .entries)
+  pub few : count ≤ entriesMost
+  pub room : indexSize ≤ length index
+  pub each : (k : ℕ) → k < count → EntryAt loaded (entryPlace index k) (getD (bookOf loaded .entries) k noEntry)
+
+-- the list after one line more: where a P line stands at `at`, its place is put behind the `count` before it
+unfoldable pub withPlace : List ℤ → ℕ → List ℤ → ℕ → List ℤ
+withPlace loaded at index count = cond (isP (drop at loaded)) (set index (entriesFrom + count) (pos at)) index
+
+-- the places were put, and what stands before them is kept
+pub record Placed (loaded old new : List ℤ) (count : ℕ) : Type 0 where
+  pub entries : EntriesAt loaded new count
+  pub kept : KeptBelow entriesFrom old new

@@ -17,8 +17,8 @@ use Rattle.book.specs.Grams.{gramsFrom}
 unfoldable pub sizeAt : List ℤ → ℕ → ℕ
 sizeAt loaded at = cond (leb (sizeOf (drop at loaded)) (length loaded - at)) (sizeOf (drop at loaded)) 0
 
--- question 2 of all lines; where it passes, the survey of all lines, and their triples
+-- question 2 of all lines; where it passes, the survey of all lines, and their records
 abbrev pub SurveyOf : List ℤ → List ℤ → List ℤ → Surveyed → Type 0
-SurveyOf loaded grams₀ grams₁ (Whole s) =
-    (all isWhole (loadedLines loaded) ≡ true) × (s ≡ surveyFrom fresh (loadedLines loaded)) × (grams₁ ≡ gramsFrom grams₀ 0 (loadedLines loaded))
-SurveyOf loaded grams₀ grams₁ Broken = all isWhole (loadedLines loaded) ≡ false
+SurveyOf loaded index₀ index₁ (Whole s) =
+    (all isWhole (loadedLines loaded) ≡ true) × (s ≡ surveyFrom fresh (loadedLines loaded)) × (index₁ ≡ gramsFrom index₀ 0 (loadedLines loaded))
+SurveyOf loaded index₀ index₁ Broken = all isWhole (loadedLines loaded) ≡ false

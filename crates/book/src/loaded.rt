@@ -6,6 +6,7 @@ ghost use mathlib.Core.Path.{_≡_};
 ghost use Prim.Native.Nat.{_≤_};
 ghost use lib.ListN.{length, drop};
 ghost use Rattle.notes.specs.Book.{isP};
+ghost use Rattle.ngrams.specs.Parts.{recordsEnd};
 ghost use Rattle.book.specs.Loaded.{sizeAt, SurveyOf};
 
 // The survey of a list whose lines are all whole (question 2), or that one is not.
@@ -34,11 +35,11 @@ pub fn is_entry_at(book: &[i32], at: usize) -> bool
     lines::is_kind(&book[at..], 2)
 }
 
-// What is known of all lines of a loaded list; `grams` gets the triples of its T lines. Where a line is not whole, what
-// `grams` holds afterwards is not said.
-pub fn survey_loaded(book: &[i32], grams: &mut [i32]) -> Surveyed
-    requires { ⌜ 32_768 ≤ length (now grams) ⌝ }
-    ensures { λ r. ⌜ SurveyOf (now (book .entry)) (now (grams .entry)) (now (grams .exit)) r ⌝ }
+// What is known of all lines of a loaded list; `index` gets the records of its T lines. Where a line is not whole, what
+// `index` holds afterwards is not said.
+pub fn survey_loaded(book: &[i32], index: &mut [i32]) -> Surveyed
+    requires { ⌜ recordsEnd ≤ length (now index) ⌝ }
+    ensures { λ r. ⌜ SurveyOf (now (book .entry)) (now (index .entry)) (now (index .exit)) r ⌝ }
 {
     let mut acc = survey::fresh();
     let mut at = 0;
@@ -47,7 +48,7 @@ pub fn survey_loaded(book: &[i32], grams: &mut [i32]) -> Surveyed
         if size == 0 {
             return Surveyed::Broken;
         }
-        acc = grams::note_line(acc, grams, &book[at..at + size]);
+        acc = grams::note_line(acc, index, &book[at..at + size]);
         at += size;
     }
     Surveyed::Whole(acc)

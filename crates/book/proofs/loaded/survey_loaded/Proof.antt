@@ -11,16 +11,16 @@ use Rattle.book.proofs.loaded.survey_loaded.Statement.{statement}
 use Rattle.book.proofs.loaded.survey_loaded.Tie as tie
 
 abbrev Inv-loop : tie.InvT-loop
-Inv-loop book grams₀ acc₀ at₀ grams acc at = Walked book grams₀ acc grams at
+Inv-loop book index₀ acc₀ at₀ index acc at = Walked book index₀ acc index at
 
 abbrev μ-loop : tie.MeasureT-loop
-μ-loop book grams₀ acc₀ at₀ grams acc at = length book - at
+μ-loop book index₀ acc₀ at₀ index acc at = length book - at
 
 fresh-requires : tie.Need-fresh-requires Inv-loop μ-loop
 fresh-requires c κs = tt
 
 loop-holds : tie.Need-loop-holds Inv-loop μ-loop
-loop-holds c = rw (c .fresh .ensures) (walk-start (c .before .args .book .now) (c .before .args .grams .now))
+loop-holds c = rw (c .fresh .ensures) (walk-start (c .before .args .book .now) (c .before .args .index .now))
 
 size-at-requires : tie.Need-size-at-requires Inv-loop μ-loop
 size-at-requires c κs = omega arith
