@@ -15,8 +15,10 @@ use Rattle.notes.specs.Questions.{_unless_, _orelse_, number}
 use Rattle.notes.specs.Book.{isP, isT, isWhole, isOneBFirst, isInRange, isNoTripleTwice, linesRefusal, entryOf, tripleOf, bookOfLines, loadedLines}
 use Rattle.notes.specs.declared.Refusal.{Refusal}
 use Rattle.notes.proofs.Chains.{rest-passes, test-passes}
-use Rattle.triples.specs.Grams.{triplesIn, sameTriple, Indexed}
-use Rattle.triples.proofs.Lines.{Copied, triples-are, answers-6}
+use Rattle.ngrams.specs.Parts.{recordsMost, recordsFrom, recordsEnd, KeptFrom}
+use Rattle.ngrams.specs.Grams.{keysIn, triplesIn, sameKey, Indexed}
+use Rattle.ngrams.proofs.Differ.{kept-keys, kept-triples}
+use Rattle.ngrams.proofs.Lines.{Copied, triples-are, answers-6}
 use Rattle.book.specs.declared.survey.Survey.{Survey}
 use Rattle.book.specs.declared.loaded.Surveyed.{Surveyed}
 use Rattle.book.specs.declared.loaded.Surveyed.the-variants.{Whole, Broken}
@@ -24,7 +26,7 @@ use Rattle.book.specs.Survey.{fourOf}
 use Rattle.book.specs.Loaded.{SurveyOf}
 use Rattle.book.proofs.Counts.{survey-ps, survey-ts, survey-refusal}
 use Rattle.book.proofs.Triples.{grams-long, grams-hold}
-use Rattle.loading.specs.Loaded.{WholeAs, SurveyIs, Ready}
+use Rattle.loading.specs.Loaded.{WholeAs, SurveyIs, Known}
 use Rattle.notes.proofs.Numbered.{number-from, refused-first}
 
 -- ════ questions 3 to 5
@@ -41,7 +43,7 @@ four-none s k e three four five = by (s .headed && eqb (s .bs) 1) (s .ranged) (l
     by false b c q = absurd (three q)
 
 -- no more T lines than there is room for
-pub four-few : (s : Survey) → fourOf s ≡ 0 → s .ts ≤ 8_192
+pub four-few : (s : Survey) → fourOf s ≡ 0 → s .ts ≤ recordsMost
 unfolding fourOf
 four-few s e =
     let after3 = rest-passes (3 unless (s .headed && eqb (s .bs) 1)) _ e in
@@ -58,7 +60,7 @@ later false b c m j e two three four = absurd (two (sym e))
 
 -- ════ question 6
 
-module _ {lines : List (List ℤ)} {grams₀ grams : List ℤ} {s : Survey} (w : WholeAs lines grams₀ grams s) (room : 32_768 ≤ length grams) (four : fourOf s ≡ 0) where
+module _ {lines : List (List ℤ)} {index₀ index : List ℤ} {s : Survey} (w : WholeAs lines index₀ index s) (room : recordsEnd ≤ length index) (four : fourOf s ≡ 0) where
   refusal-6 : linesRefusal lines ≡ 6 unless isNoTripleTwice lines
   refusal-6 = survey-refusal lines (w .whole) ∙ ap (λ (k : ℕ). k orelse 6 unless isNoTripleTwice lines) (ap fourOf (sym (w .surveyed)) ∙ four)
 
@@ -74,38 +76,39 @@ module _ {lines : List (List ℤ)} {grams₀ grams : List ℤ} {s : Survey} (w :
       by false e = later (all isWhole lines) (isOneBFirst lines) (all isInRange lines) _ 6 e (omega arith) (omega arith) (omega arith)
 
   -- the records are the numbers of the T lines
-  copied : Copied grams (keep isT lines)
+  copied : Copied index (keep isT lines)
   copied = record {
     at = λ k f h l.
         let n : length (keep isT lines) ≡ count isT lines = keep-length isT lines in
         let c : f + 1 ≡ 1 + f = omega arith in
         let z = counted in
         let few = four-few s four in
-        rw (w .gathered, c) (grams-hold grams₀ lines (omega arith) (omega (arith, ap length (w .gathered), grams-long grams₀ 0 lines)) k f (omega arith) l);
+        rw (w .gathered, c) (grams-hold index₀ lines (omega arith) (omega (arith, ap length (w .gathered), grams-long index₀ 0 lines)) k f (omega arith) l);
   }
 
-  held : triplesIn grams (s .ts) ≡ map tripleOf (keep isT lines)
-  held = ap (triplesIn grams) counted ∙ triples-are grams lines copied
+  held : triplesIn index (s .ts) ≡ map tripleOf (keep isT lines)
+  held = ap (triplesIn index) counted ∙ triples-are index lines copied
 
-  answer-6 : noneTwice sameTriple (triplesIn grams (s .ts)) ≡ isNoTripleTwice lines
-  answer-6 = answers-6 grams (s .ts) lines held (w .whole) ranged
+  answer-6 : noneTwice sameKey (keysIn index (s .ts)) ≡ isNoTripleTwice lines
+  answer-6 = ap (λ (n : ℕ). noneTwice sameKey (keysIn index n)) counted ∙ answers-6 index lines copied (w .whole) ranged
 
-  pub repeated-so : false ≡ noneTwice sameTriple (triplesIn grams (s .ts)) → linesRefusal lines ≡ 6
+  pub repeated-so : false ≡ noneTwice sameKey (keysIn index (s .ts)) → linesRefusal lines ≡ 6
   repeated-so e = refusal-6 ∙ ap (λ (b : Bool). 6 unless b) (sym (e ∙ answer-6))
 
-  pub different-so : {heads links : List ℕ} → true ≡ noneTwice sameTriple (triplesIn grams (s .ts)) → Indexed grams heads links (s .ts) → Ready (linesRefusal lines) (bookOfLines lines) grams heads links s
+  -- `all_different` left the records as they were
+  pub different-so : {after : List ℤ} → KeptFrom recordsFrom index after → true ≡ noneTwice sameKey (keysIn index (s .ts)) → Indexed after (s .ts) → Known (linesRefusal lines) (bookOfLines lines) after s
   unfolding bookOfLines
-  different-so e x = record {
+  different-so same e x = record {
     passes = refusal-6 ∙ ap (λ (b : Bool). 6 unless b) (sym (e ∙ answer-6));
     ps-is = ap (λ (x : Survey). x .ps) (w .surveyed) ∙ survey-ps lines ∙ sym (length-map (keep isP lines) entryOf ∙ keep-length isP lines);
     ts-is = counted ∙ sym (length-map (keep isT lines) tripleOf ∙ keep-length isT lines);
-    triples-are = held;
-    different = sym e;
+    triples-are = kept-triples same (s .ts) ∙ held;
+    different = ap (noneTwice sameKey) (kept-keys same (s .ts)) ∙ sym e;
     indexed = x;
   }
 
 -- a refusal by questions 3 to 5 is the lines' refusal
-pub four-so : {lines : List (List ℤ)} {grams₀ grams : List ℤ} {s : Survey} → WholeAs lines grams₀ grams s → (refusal : Refusal) → number refusal ≡ fourOf s
+pub four-so : {lines : List (List ℤ)} {index₀ index : List ℤ} {s : Survey} → WholeAs lines index₀ index s → (refusal : Refusal) → number refusal ≡ fourOf s
     → linesRefusal lines ≡ number refusal
 four-so {lines} w refusal e =
     survey-refusal lines (w .whole)
@@ -115,6 +118,6 @@ four-so {lines} w refusal e =
 -- ════ a loaded list
 
 -- its survey is that of its lines
-pub survey-loaded : (loaded grams₀ grams₁ : List ℤ) (r : Surveyed) → SurveyOf loaded grams₀ grams₁ r → SurveyIs (loadedLines loaded) grams₀ grams₁ r
-survey-loaded loaded grams₀ grams₁ (Whole s) e = record { whole = e .0; surveyed = e .1; gathered = e .2 }
-survey-loaded loaded grams₀ grams₁ Broken e = e
+pub survey-loaded : (loaded index₀ index₁ : List ℤ) (r : Surveyed) → SurveyOf loaded index₀ index₁ r → SurveyIs (loadedLines loaded) index₀ index₁ r
+survey-loaded loaded index₀ index₁ (Whole s) e = record { whole = e .0; surveyed = e .1; gathered = e .2 }
+survey-loaded loaded index₀ index₁ Broken e = e

@@ -21,9 +21,9 @@ use Rattle.notes.proofs.Numbered.{number-from, refused-reply}
 
 -- ════ the reply
 
-pub answer-reply : (k : ℕ) (book : Book) (grams : List ℤ) (heads links : List ℕ) (r : Loaded) → Answered k book grams heads links r → checkedReply (replied r) ≡ reply k tt
-answer-reply k book grams heads links (Passes s) a = sym (reply-done k tt (a .passes))
-answer-reply k book grams heads links (Refused refusal) a = refused-reply refusal k tt a
+pub answer-reply : (k : ℕ) (book : Book) (index : List ℤ) (r : Loaded) → Answered k book index r → checkedReply (replied r) ≡ reply k tt
+answer-reply k book index (Passes s) a = sym (reply-done k tt (a .passes))
+answer-reply k book index (Refused refusal) a = refused-reply refusal k tt a
 
 -- a reply's number is the chain's
 pub reply-number : (k : ℕ) (r : Checked) → checkedReply r ≡ reply k tt → k ≡ refusalOf r

@@ -10,7 +10,7 @@ use Rattle.notes.specs.Questions.{number}
 use Rattle.notes.specs.Book.{isWhole, Book}
 use Rattle.notes.specs.declared.Checked.{Checked}
 use Rattle.notes.specs.declared.Checked.the-variants.{Passed, Refused as CheckRefused}
-use Rattle.triples.specs.Grams.{triplesIn, sameTriple, Indexed}
+use Rattle.ngrams.specs.Grams.{keysIn, triplesIn, sameKey, Indexed}
 use Rattle.book.specs.declared.survey.Survey.{Survey}
 use Rattle.book.specs.declared.loaded.Surveyed.{Surveyed}
 use Rattle.book.specs.declared.loaded.Surveyed.the-variants.{Whole, Broken}
@@ -26,32 +26,32 @@ refusalOf (CheckRefused refusal) = number refusal
 
 -- ════ the survey of lines
 
--- the lines are whole, s is what is known of them, and their triples were put into the list that was `grams₀`
-pub record WholeAs (lines : List (List ℤ)) (grams₀ grams₁ : List ℤ) (s : Survey) : Type 0 where
+-- the lines are whole, s is what is known of them, and their records were put into the list that was `index₀`
+pub record WholeAs (lines : List (List ℤ)) (index₀ index₁ : List ℤ) (s : Survey) : Type 0 where
   pub whole : all isWhole lines ≡ true
   pub surveyed : s ≡ surveyFrom fresh lines
-  pub gathered : grams₁ ≡ gramsFrom grams₀ 0 lines
+  pub gathered : index₁ ≡ gramsFrom index₀ 0 lines
 
 -- question 2 of all lines; where it passes, their survey
 abbrev pub SurveyIs : List (List ℤ) → List ℤ → List ℤ → Surveyed → Type 0
-SurveyIs lines grams₀ grams₁ (Whole s) = WholeAs lines grams₀ grams₁ s
-SurveyIs lines grams₀ grams₁ Broken = all isWhole lines ≡ false
+SurveyIs lines index₀ index₁ (Whole s) = WholeAs lines index₀ index₁ s
+SurveyIs lines index₀ index₁ Broken = all isWhole lines ≡ false
 
 -- ════ what questions 2 to 6 answer
 
--- none refuses: how many entries and triples the book has, and its triples with their index
-pub record Ready (refusal : ℕ) (book : Book) (grams : List ℤ) (heads links : List ℕ) (s : Survey) : Type 0 where
+-- none refuses: how many entries and triples the book has, and its triples as indexed records
+pub record Known (refusal : ℕ) (book : Book) (index : List ℤ) (s : Survey) : Type 0 where
   pub passes : refusal ≡ 0
   pub ps-is : s .ps ≡ length (book .entries)
   pub ts-is : s .ts ≡ length (book .triples)
-  pub triples-are : triplesIn grams (s .ts) ≡ book .triples
-  pub different : noneTwice sameTriple (triplesIn grams (s .ts)) ≡ true
-  pub indexed : Indexed grams heads links (s .ts)
+  pub triples-are : triplesIn index (s .ts) ≡ book .triples
+  pub different : noneTwice sameKey (keysIn index (s .ts)) ≡ true
+  pub indexed : Indexed index (s .ts)
 
 -- of lines or a list that the questions answer with `refusal`, 0 for none, and that state the book `book`
-abbrev pub Answered : ℕ → Book → List ℤ → List ℕ → List ℕ → Loaded → Type 0
-Answered refusal book grams heads links (Passes s) = Ready refusal book grams heads links s
-Answered refusal book grams heads links (Refused question) = refusal ≡ number question
+abbrev pub Answered : ℕ → Book → List ℤ → Loaded → Type 0
+Answered refusal book index (Passes s) = Known refusal book index s
+Answered refusal book index (Refused question) = refusal ≡ number question
 
 -- the answer without what a search needs
 abbrev pub replied : Loaded → Checked

@@ -25,10 +25,8 @@ pub fn reply_of(loaded: Loaded) -> Checked
 pub fn check_book(book: &[i32]) -> Checked
     ensures { λ r. ⌜ checkedReply r ≡ checkBook (now (book .entry)) ⌝ }
 {
-    let mut grams = [0i32; 32768];
-    let mut heads = [0u16; 8192];
-    let mut links = [0u16; 8192];
-    let loaded = load::load(book, &mut grams, &mut heads, &mut links);
+    let mut index = [0i32; ngrams::RECORDS_END];
+    let loaded = load::load(book, &mut index);
     reply_of(loaded)
 }
 

@@ -11,7 +11,8 @@ ghost use mathlib.Core.List.{List};
 ghost use lib.IntN.{ℤ};
 ghost use lib.ListN.{length};
 ghost use Rattle.notes.specs.Book.{linesRefusal, bookOfLines, bookRefusal, bookOf};
-ghost use Rattle.triples.specs.Grams.{Room};
+ghost use Prim.Native.Nat.{_≤_};
+ghost use Rattle.ngrams.specs.Parts.{recordsEnd};
 ghost use Rattle.book.specs.Survey.{fourOf};
 ghost use Rattle.loading.specs.Loaded.{refusalOf, WholeAs, SurveyIs, Answered};
 
@@ -38,50 +39,46 @@ fn judge(s: Survey) -> Checked
     Checked::Passed
 }
 
-// Question 6, of lines that passed 2 to 5. Where it passes, `heads` and `links` are the index of the triples.
-fn compare(s: Survey, grams: &[i32], heads: &mut [u16], links: &mut [u16]) -> Loaded
-    requires { ⌜ Room (now grams) (now heads) (now links) 8_192 ⌝ }
+// Question 6, of lines that passed 2 to 5. Where it passes, the records are indexed.
+fn compare(s: Survey, index: &mut [i32]) -> Loaded
+    requires { ⌜ recordsEnd ≤ length (now index) ⌝ }
     requires { ⌜ fourOf s ≡ 0 ⌝ }
-    ensures { λ r. ⌜ ((lines : List (List ℤ)) (grams₀ : List ℤ) → WholeAs lines grams₀ (now (grams .entry)) s → Answered (linesRefusal lines) (bookOfLines lines) (now (grams .entry)) (now (heads .exit)) (now (links .exit)) r) ⌝ }
+    ensures { λ r. ⌜ ((lines : List (List ℤ)) (index₀ : List ℤ) → WholeAs lines index₀ (now (index .entry)) s → Answered (linesRefusal lines) (bookOfLines lines) (now (index .exit)) r) ⌝ }
 {
-    if triples::all_different(grams, heads, links, s.ts) {
+    if ngrams::all_different(index, s.ts) {
         return Loaded::Book(s);
     }
     Loaded::Refused(Refusal::RepeatedTriple)
 }
 
 // Questions 3 to 6, of lines that passed 2.
-pub fn settle_whole(s: Survey, grams: &[i32], heads: &mut [u16], links: &mut [u16]) -> Loaded
-    requires { ⌜ Room (now grams) (now heads) (now links) 8_192 ⌝ }
-    ensures { λ r. ⌜ ((lines : List (List ℤ)) (grams₀ : List ℤ) → WholeAs lines grams₀ (now (grams .entry)) s → Answered (linesRefusal lines) (bookOfLines lines) (now (grams .entry)) (now (heads .exit)) (now (links .exit)) r) ⌝ }
+pub fn settle_whole(s: Survey, index: &mut [i32]) -> Loaded
+    requires { ⌜ recordsEnd ≤ length (now index) ⌝ }
+    ensures { λ r. ⌜ ((lines : List (List ℤ)) (index₀ : List ℤ) → WholeAs lines index₀ (now (index .entry)) s → Answered (linesRefusal lines) (bookOfLines lines) (now (index .exit)) r) ⌝ }
 {
     match judge(s) {
-        Checked::Passed => compare(s, grams, heads, links),
+        Checked::Passed => compare(s, index),
         Checked::Refused(refusal) => Loaded::Refused(refusal),
     }
 }
 
-// Questions 2 to 6, of lines that were surveyed, their triples in `grams`. Where they pass, `heads` and `links` are the index
-// of the triples.
-pub fn settle(surveyed: Surveyed, grams: &[i32], heads: &mut [u16], links: &mut [u16]) -> Loaded
-    requires { ⌜ Room (now grams) (now heads) (now links) 8_192 ⌝ }
-    ensures { λ r. ⌜ ((lines : List (List ℤ)) (grams₀ : List ℤ) → SurveyIs lines grams₀ (now (grams .entry)) surveyed → Answered (linesRefusal lines) (bookOfLines lines) (now (grams .entry)) (now (heads .exit)) (now (links .exit)) r) ⌝ }
+// Questions 2 to 6, of lines that were surveyed, their records in `index`. Where they pass, the records are indexed.
+pub fn settle(surveyed: Surveyed, index: &mut [i32]) -> Loaded
+    requires { ⌜ recordsEnd ≤ length (now index) ⌝ }
+    ensures { λ r. ⌜ ((lines : List (List ℤ)) (index₀ : List ℤ) → SurveyIs lines index₀ (now (index .entry)) surveyed → Answered (linesRefusal lines) (bookOfLines lines) (now (index .exit)) r) ⌝ }
 {
     match surveyed {
-        Surveyed::Whole(s) => settle_whole(s, grams, heads, links),
+        Surveyed::Whole(s) => settle_whole(s, index),
         Surveyed::Broken => Loaded::Refused(Refusal::LineFields),
     }
 }
 
-// Questions 2 to 6, of a loaded book. Where they pass, `grams` holds its triples, and `heads` and `links` are their index;
-// after a refusal, what the three lists hold is not said.
-pub fn load(book: &[i32], grams: &mut [i32], heads: &mut [u16], links: &mut [u16]) -> Loaded
-    requires { ⌜ Room (now grams) (now heads) (now links) 8_192 ⌝ }
-    ensures { λ r. ⌜ Answered (bookRefusal (now (book .entry))) (bookOf (now (book .entry))) (now (grams .exit)) (now (heads .exit)) (now (links .exit)) r ⌝ }
-    ensures { λ _. ⌜ length (now (grams .exit)) ≡ length (now (grams .entry)) ⌝ }
-    ensures { λ _. ⌜ length (now (heads .exit)) ≡ length (now (heads .entry)) ⌝ }
-    ensures { λ _. ⌜ length (now (links .exit)) ≡ length (now (links .entry)) ⌝ }
+// Questions 2 to 6, of a loaded book. Where they pass, `index` holds its triples as indexed records; after a refusal, what it
+// holds is not said.
+pub fn load(book: &[i32], index: &mut [i32]) -> Loaded
+    requires { ⌜ recordsEnd ≤ length (now index) ⌝ }
+    ensures { λ r. ⌜ Answered (bookRefusal (now (book .entry))) (bookOf (now (book .entry))) (now (index .exit)) r ⌝ }
 {
-    let surveyed = loaded::survey_loaded(book, grams);
-    settle(surveyed, grams, heads, links)
+    let surveyed = loaded::survey_loaded(book, index);
+    settle(surveyed, index)
 }

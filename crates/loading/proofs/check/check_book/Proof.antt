@@ -1,4 +1,4 @@
--- What loading answers, without the lists, is the reply of questions 2 to 6.
+-- What loading answers, without the list, is the reply of questions 2 to 6.
 use Rattle.notes.specs.Book.{bookRefusal}
 use mathlib.Core.Path.{ap, _∙_}
 use Rattle.loading.proofs.Replies.{answer-reply}
@@ -10,12 +10,6 @@ use Rattle.loading.proofs.check.check_book.Tie as tie
 slice-aggregate-load : tie.Need-slice-aggregate-load
 slice-aggregate-load c = search needs
 
-slice-aggregate-load-2 : tie.Need-slice-aggregate-load-2
-slice-aggregate-load-2 c = search needs
-
-slice-aggregate-load-3 : tie.Need-slice-aggregate-load-3
-slice-aggregate-load-3 c = search needs
-
 load-requires : tie.Need-load-requires
 load-requires c κs = search needs
 
@@ -25,16 +19,8 @@ reply-of-requires c κs = search needs
 returns : tie.Need-returns
 unfolding checkBook
 returns c =
-    let k = c .before .before .before .before .load in
-    ap checkedReply (c .reply-of .ensures) ∙ answer-reply (bookRefusal (c .before .before .before .before .before .before .before .before .args .book .now)) _ _ _ _ (k .result) (k .ensures .0)
+    let k = c .before .before .load in
+    ap checkedReply (c .reply-of .ensures) ∙ answer-reply (bookRefusal (c .before .before .before .before .args .book .now)) _ _ (k .result) (k .ensures)
 
 pub check-book-spec : {M : Type 1} → statement M
-check-book-spec =
-    tie.close
-    (tie.spec
-    slice-aggregate-load
-    slice-aggregate-load-2
-    slice-aggregate-load-3
-    load-requires
-    reply-of-requires
-    returns)
+check-book-spec = tie.close (tie.spec slice-aggregate-load load-requires reply-of-requires returns)

@@ -16,23 +16,13 @@ enum-told c = search needs
 same-length : tie.Need-same-length
 same-length c = search needs
 
-same-length-2 : tie.Need-same-length-2
-same-length-2 c = search needs
-
 returns : tie.Need-returns
-returns c = λ lines grams₀ w. c .before .before .before .before .settle-whole .ensures lines grams₀ (rw (c .before .before .before .before .before .before .before .before .surveyed .given .1) at w)
+returns c = λ lines index₀ w. c .before .settle-whole .ensures lines index₀ (rw (c .before .before .before .before .surveyed .given .1) at w)
 
 returns-2 : tie.Need-returns-2
-returns-2 c = λ lines grams₀ w. broken-refusal lines (rw (c .enum-told .given .1) at w)
+returns-2 c = λ lines index₀ w. broken-refusal lines (rw (c .enum-told .given .1) at w)
 
 pub settle-spec : {M : Type 1} → statement M
 settle-spec =
     tie.close
-    (tie.spec
-    enum-known-surveyed
-    settle-whole-requires
-    enum-told
-    same-length
-    same-length-2
-    returns
-    returns-2)
+    (tie.spec enum-known-surveyed settle-whole-requires enum-told same-length returns returns-2)

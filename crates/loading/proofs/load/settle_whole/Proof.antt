@@ -13,7 +13,7 @@ enum-told : tie.Need-enum-told
 enum-told c = search needs
 
 compare-requires : tie.Need-compare-requires
-compare-requires c κs = (c .before .before .before .before .before .before .before .pre, sym (c .before .before .before .before .judge .ensures) ∙ ap refusalOf (c .before .before .enum-told .given .1))
+compare-requires c κs = (c .before .before .before .before .pre, sym (c .before .before .before .judge .ensures) ∙ ap refusalOf (c .before .enum-told .given .1))
 
 enum-known-refusal : tie.Need-enum-known-refusal
 enum-known-refusal c = search needs
@@ -21,14 +21,11 @@ enum-known-refusal c = search needs
 same-length : tie.Need-same-length
 same-length c = search needs
 
-same-length-2 : tie.Need-same-length-2
-same-length-2 c = search needs
-
 returns : tie.Need-returns
 returns c = search needs
 
 returns-2 : tie.Need-returns-2
-returns-2 c = λ lines grams₀ w. four-so w (c .before .refusal .given .0 .0) (sym (ap refusalOf (c .before .refusal .given .1)) ∙ c .before .before .before .judge .ensures)
+returns-2 c = λ lines index₀ w. four-so w (c .before .refusal .given .0 .0) (sym (ap refusalOf (c .before .refusal .given .1)) ∙ c .before .before .before .judge .ensures)
 
 pub settle-whole-spec : {M : Type 1} → statement M
 settle-whole-spec =
@@ -39,6 +36,5 @@ settle-whole-spec =
     compare-requires
     enum-known-refusal
     same-length
-    same-length-2
     returns
     returns-2)
