@@ -24,24 +24,24 @@ unfolding wordIn
 word-is {loaded} {from} {many} {words} w j h =
     rw (w .word-at j h) (let k : getD words j 0 ≤ 65535 = w .word-to j h in mod-eq-of-lt (omega arith))
 
-module _ (grams : List ℤ) (t : Task) where
+module _ (index : List ℤ) (t : Task) where
   -- one word more of the row
-  pub say-next : (s : Said) (words : List ℕ) (j : ℕ) → j < length words → sayAll grams t s (drop j words) ≡ sayAll grams t (sayOne grams t s (getD words j 0)) (drop (j + 1) words)
+  pub say-next : (s : Said) (words : List ℕ) (j : ℕ) → j < length words → sayAll index t s (drop j words) ≡ sayAll index t (sayOne index t s (getD words j 0)) (drop (j + 1) words)
   unfolding sayAll
-  say-next s words j h = ap (sayAll grams t s) (drop-next words j 0 h)
+  say-next s words j h = ap (sayAll index t s) (drop-next words j 0 h)
 
-  pub say-end : (s : Said) (words : List ℕ) (j : ℕ) → length words ≤ j → sayAll grams t s (drop j words) ≡ s
+  pub say-end : (s : Said) (words : List ℕ) (j : ℕ) → length words ≤ j → sayAll index t s (drop j words) ≡ s
   unfolding sayAll
-  say-end s words j h = ap (sayAll grams t s) (drop-of-length-le words {i = j} h)
+  say-end s words j h = ap (sayAll index t s) (drop-of-length-le words {i = j} h)
 
-  pub say-within : ((v w y : ℕ) → Within 1000000 (modelScore grams t v w y)) → (s : Said) (y j : ℕ) → Within (j * 1000000) (s .score) → Within ((j + 1) * 1000000) (sayOne grams t s y .score)
+  pub say-within : ((v w y : ℕ) → Within 1000000 (modelScore index t v w y)) → (s : Said) (y j : ℕ) → Within (j * 1000000) (s .score) → Within ((j + 1) * 1000000) (sayOne index t s y .score)
   unfolding sayOne
   say-within each s y j h = within-mono (omega arith) (within-+ h (each (s .word1) (s .word2) y))
 
 -- a state whose fields are what the calls gave is the next one
-pub next-is : (grams : List ℤ) (t : Task) (p : Phrase) (e : Entry) (first last : ℕ) (s : State) (said : Said) (far cov : ℕ) (more score : ℤ)
-    → said ≡ sayAll grams t (silent (s .word1) (s .word2)) (e .target) → far ≡ jumpFrom (s .r) first → cov ≡ s .covered + maskOf first last
+pub next-is : (index : List ℤ) (t : Task) (p : Phrase) (e : Entry) (first last : ℕ) (s : State) (said : Said) (far cov : ℕ) (more score : ℤ)
+    → said ≡ sayAll index t (silent (s .word1) (s .word2)) (e .target) → far ≡ jumpFrom (s .r) first → cov ≡ s .covered + maskOf first last
     → more ≡ gainBy t p far said → score ≡ s .score +ℤ more
-    → _≡_ {A = State} (record { word1 = said .word1; word2 = said .word2; covered = cov; r = last; score = score }) (nextState grams t p e first last s)
+    → _≡_ {A = State} (record { word1 = said .word1; word2 = said .word2; covered = cov; r = last; score = score }) (nextState index t p e first last s)
 unfolding nextState
-next-is grams t p e first last s said far cov more score a b d f g = rw (g, f, d, b, a)
+next-is index t p e first last s said far cov more score a b d f g = rw (g, f, d, b, a)

@@ -9,22 +9,22 @@ use Rattle.laws.specs.Integers.{Within, natOf}
 use Rattle.laws.specs.Lists.{noneTwice}
 use Rattle.notes.specs.Book.{Entry}
 use Rattle.notes.specs.Derivation.{listedScore}
-use Rattle.triples.specs.Grams.{triplesIn, sameTriple, Indexed}
+use Rattle.ngrams.specs.Grams.{keysIn, triplesIn, sameKey, Indexed}
 use Rattle.derivation.specs.declared.Task.{Task}
 use Rattle.derivation.specs.declared.Said.{Said}
 use Rattle.derivation.specs.declared.Phrase.{Phrase}
 
 -- ════ the language model
 
--- the score of the triple v, w, y by the lists
+-- the score of the triple v, w, y by the list
 unfoldable pub modelScore : List ℤ → Task → ℕ → ℕ → ℕ → ℤ
-modelScore grams t v w y = listedScore v w y (t .unseen) (triplesIn grams (t .triples))
+modelScore index t v w y = listedScore v w y (t .unseen) (triplesIn index (t .triples))
 
--- the lists are an index of triples, no two alike, with scores in their range
-pub record Model (grams : List ℤ) (heads links : List ℕ) (t : Task) : Type 0 where
-  pub indexed : Indexed grams heads links (t .triples)
-  pub different : noneTwice sameTriple (triplesIn grams (t .triples)) ≡ true
-  pub scores-within : (v w y : ℕ) → Within 1_000_000 (modelScore grams t v w y)
+-- the list has an index of triples, no two alike, with scores in their range
+pub record Model (index : List ℤ) (t : Task) : Type 0 where
+  pub indexed : Indexed index (t .triples)
+  pub different : noneTwice sameKey (keysIn index (t .triples)) ≡ true
+  pub scores-within : (v w y : ℕ) → Within 1_000_000 (modelScore index t v w y)
 
 -- nothing said yet, after two words
 abbrev pub silent : ℕ → ℕ → Said
@@ -32,11 +32,11 @@ silent v w = record { score = pos 0; word1 = v; word2 = w }
 
 -- one target word more, and a row of them
 unfoldable pub sayOne : List ℤ → Task → Said → ℕ → Said
-sayOne grams t s y = record { score = s .score +ℤ modelScore grams t (s .word1) (s .word2) y; word1 = s .word2; word2 = y }
+sayOne index t s y = record { score = s .score +ℤ modelScore index t (s .word1) (s .word2) y; word1 = s .word2; word2 = y }
 
 unfoldable pub sayAll : List ℤ → Task → Said → List ℕ → Said
-sayAll grams t s [] = s
-sayAll grams t s (y ∷ ys) = sayAll grams t (sayOne grams t s y) ys
+sayAll index t s [] = s
+sayAll index t s (y ∷ ys) = sayAll index t (sayOne index t s y) ys
 
 -- ════ an entry
 

@@ -21,8 +21,8 @@ gainBy t p far said = p .g +ℤ t .eta *ℤ pos far +ℤ said .score
 
 -- the entry's words are said, the positions covered, and the gain added
 unfoldable pub nextState : List ℤ → Task → Phrase → Entry → ℕ → ℕ → State → State
-nextState grams t p e first last s =
-    let said = sayAll grams t (silent (s .word1) (s .word2)) (e .target) in
+nextState index t p e first last s =
+    let said = sayAll index t (silent (s .word1) (s .word2)) (e .target) in
     record {
       word1 = said .word1;
       word2 = said .word2;

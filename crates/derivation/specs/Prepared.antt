@@ -1,4 +1,4 @@
--- The lists and the numbers of a decode are those of its book and its direction.
+-- What is known of a book and the numbers of a decode are those of its book and its direction.
 use Prim.Native.Nat.{ℕ}
 use mathlib.Core.Path.{_≡_}
 use mathlib.Core.List.{List}
@@ -7,15 +7,16 @@ use lib.ListN.{length}
 use Rattle.notes.specs.Book.{bookRefusal, bookOf}
 use Rattle.notes.specs.Direction.{wordCount, directionRefusal}
 use Rattle.notes.specs.Derivation.{tripleScore}
+use Rattle.book.specs.Entries.{EntriesAt}
 use Rattle.derivation.specs.Model.{Model, modelScore}
 use Rattle.derivation.specs.declared.Task.{Task}
 
-pub record Prepared (loaded : List ℤ) (direction : List ℕ) (grams : List ℤ) (heads links : List ℕ) (t : Task) : Type 0 where
+pub record Prepared (loaded : List ℤ) (direction : List ℕ) (index : List ℤ) (t : Task) : Type 0 where
   pub passed : bookRefusal loaded ≡ 0
   pub directed : directionRefusal direction ≡ 0
-  pub model : Model grams heads links t
-  pub scores-are : (v w y : ℕ) → modelScore grams t v w y ≡ tripleScore (bookOf loaded) v w y
+  pub model : Model index t
+  pub scores-are : (v w y : ℕ) → modelScore index t v w y ≡ tripleScore (bookOf loaded) v w y
   pub n-is : t .n ≡ wordCount direction
   pub limit-is : t .limit ≡ bookOf loaded .limit
   pub eta-is : t .eta ≡ bookOf loaded .eta
-  pub phrases-are : t .phrases ≡ length (bookOf loaded .entries)
+  pub entries-at : EntriesAt loaded index (t .phrases)

@@ -2,6 +2,7 @@
 use crate::Phrase;
 use crate::Said;
 use crate::Task;
+use ngrams::Key;
 ghost use mathlib.Core.Path.{_≡_};
 ghost use Prim.Native.Nat.{_+_, _<_};
 ghost use lib.ListN.{length};
@@ -10,22 +11,18 @@ ghost use Rattle.notes.specs.Book.{Entry};
 ghost use Rattle.derivation.specs.Model.{Model, wordIn, silent, sayOne, sayAll, PhraseOf, Phrased};
 
 // One target word more.
-fn say_word(grams: &[i32], heads: &[u16], links: &[u16], t: Task, s: Said, y: u16) -> Said
-    requires { ⌜ Model (now grams) (now heads) (now links) t ⌝ }
+fn say_word(index: &[i32], t: Task, s: Said, y: u16) -> Said
+    requires { ⌜ Model (now index) t ⌝ }
     requires { ⌜ Within 1000000000 (s .score) ⌝ }
-    ensures { λ r. ⌜ r ≡ sayOne (now (grams .entry)) t s y ⌝ }
+    ensures { λ r. ⌜ r ≡ sayOne (now (index .entry)) t s y ⌝ }
 {
     let old = s.score;
-    let gain = triples::triple_score(
-        grams,
-        heads,
-        links,
-        t.triples,
-        t.unseen,
-        s.word1,
-        s.word2,
-        y,
-    );
+    let key = Key {
+        v: s.word1 as usize,
+        w: s.word2 as usize,
+        y: y as usize,
+    };
+    let gain = ngrams::triple_score(index, t.triples, t.unseen, key);
     Said {
         score: old + gain,
         word1: s.word2,
@@ -46,19 +43,10 @@ pub fn word_at(book: &[i32], k: usize) -> u16
 }
 
 // What the entry's target words say after the words word1 and word2.
-pub fn say(
-    book: &[i32],
-    grams: &[i32],
-    heads: &[u16],
-    links: &[u16],
-    t: Task,
-    p: Phrase,
-    word1: u16,
-    word2: u16,
-) -> Said
-    requires { ⌜ Model (now grams) (now heads) (now links) t ⌝ }
+pub fn say(book: &[i32], index: &[i32], t: Task, p: Phrase, word1: u16, word2: u16) -> Said
+    requires { ⌜ Model (now index) t ⌝ }
     requires { ⌜ Phrased (now book) p ⌝ }
-    ensures { λ r. ⌜ ((e : Entry) → PhraseOf (now (book .entry)) e p → r ≡ sayAll (now (grams .entry)) t (silent word1 word2) (e .target)) ⌝ }
+    ensures { λ r. ⌜ ((e : Entry) → PhraseOf (now (book .entry)) e p → r ≡ sayAll (now (index .entry)) t (silent word1 word2) (e .target)) ⌝ }
     ensures { λ r. ⌜ Within 8000000 (r .score) ⌝ }
 {
     let mut s = Said {
@@ -69,7 +57,7 @@ pub fn say(
     let mut j = 0;
     while j < p.count {
         let y = word_at(book, p.target + j);
-        s = say_word(grams, heads, links, t, s, y);
+        s = say_word(index, t, s, y);
         j += 1;
     }
     s

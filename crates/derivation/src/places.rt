@@ -1,5 +1,6 @@
 // An entry of the book by its places in the loaded list.
 use crate::Phrase;
+use book::entries;
 ghost use Prim.Native.Nat.{_+_, _≤_};
 ghost use lib.ListN.{length};
 ghost use Rattle.notes.specs.Book.{bookOf};
@@ -8,12 +9,12 @@ ghost use Rattle.book.specs.Entries.{EntriesAt};
 ghost use Rattle.derivation.specs.Model.{PhraseOf};
 
 // Entry k of the book, counted from 1.
-pub fn phrase_at(book: &[i32], entries: &[usize], count: usize, k: usize) -> Phrase
-    requires { ⌜ EntriesAt (now book) (now entries) count ⌝ }
-    requires { ⌜ (1 ≤ k) × ((k ≤ count) × (count ≤ length (now entries))) ⌝ }
+pub fn phrase_at(book: &[i32], index: &[i32], count: usize, k: usize) -> Phrase
+    requires { ⌜ EntriesAt (now book) (now index) count ⌝ }
+    requires { ⌜ (1 ≤ k) × (k ≤ count) ⌝ }
     ensures { λ p. ⌜ PhraseOf (now (book .entry)) (entryAt (bookOf (now (book .entry))) k) p ⌝ }
 {
-    let at = entries[k - 1];
+    let at = ngrams::natural_in(index, entries::ENTRIES + k - 1);
     let long = lines::natural_at(book, at + 1);
     let count = lines::natural_at(book, at + 2);
     let g = lines::number_at(book, at + (3 + long + count));

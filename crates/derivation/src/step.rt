@@ -38,21 +38,19 @@ fn gain(t: Task, p: Phrase, far: usize, said: Said) -> i64
 // The state after the entry's step over the positions first to last, which are free.
 pub fn next_state(
     book: &[i32],
-    grams: &[i32],
-    heads: &[u16],
-    links: &[u16],
+    index: &[i32],
     t: Task,
     p: Phrase,
     first: usize,
     last: usize,
     s: State,
 ) -> State
-    requires { ⌜ Model (now grams) (now heads) (now links) t ⌝ }
+    requires { ⌜ Model (now index) t ⌝ }
     requires { ⌜ Phrased (now book) p ⌝ }
     requires { ⌜ CanNext t first last s ⌝ }
-    ensures { λ r. ⌜ ((e : Entry) → PhraseOf (now (book .entry)) e p → r ≡ nextState (now (grams .entry)) t p e first last s) ⌝ }
+    ensures { λ r. ⌜ ((e : Entry) → PhraseOf (now (book .entry)) e p → r ≡ nextState (now (index .entry)) t p e first last s) ⌝ }
 {
-    let said = model::say(book, grams, heads, links, t, p, s.word1, s.word2);
+    let said = model::say(book, index, t, p, s.word1, s.word2);
     let more = gain(t, p, jump(s.r as usize, first), said);
     let old = s.score;
     State {

@@ -29,26 +29,26 @@ use Rattle.reading.specs.Text.{WholeText}
 abbrev pub numbersAt : List ℕ → ℕ → List ℤ
 numbersAt text at = emitLine true Line (drop at text)
 
--- of a book's text, the lines before `at` were noted in `acc`, `grams` and `count`
-pub record Noted (text : List ℕ) (grams₀ : List ℤ) (acc : Survey) (grams : List ℤ) (count at : ℕ) : Type 0 where
+-- of a book's text, the lines before `at` were noted in `acc`, `index` and `count`
+pub record Noted (text : List ℕ) (index₀ : List ℤ) (acc : Survey) (index : List ℤ) (count at : ℕ) : Type 0 where
   pub line : At text at
   pub surveyed : surveyFrom acc (textLines (drop at text)) ≡ surveyFrom fresh (textLines text)
-  pub gathered : gramsFrom grams (acc .ts) (textLines (drop at text)) ≡ gramsFrom grams₀ 0 (textLines text)
+  pub gathered : gramsFrom index (acc .ts) (textLines (drop at text)) ≡ gramsFrom index₀ 0 (textLines text)
   pub asked : all isWhole (textLines (drop at text)) ≡ all isWhole (textLines text)
   pub total : count + length (loadedOf (drop at text)) ≡ length (loadedOf text)
 
 -- the invariant: the lines before `at` are good; they were noted, and `row` has a place for each number of a whole line
-pub record Walked (text : List ℕ) (grams₀ : List ℤ) (acc : Survey) (grams row : List ℤ) (count at : ℕ) : Type 0 where
+pub record Walked (text : List ℕ) (index₀ : List ℤ) (acc : Survey) (index row : List ℤ) (count at : ℕ) : Type 0 where
   pub ends : atLine (run true Line (drop at text)) ≡ atLine (run true Line text)
-  pub noted : isBookText text ≡ true → Noted text grams₀ acc grams count at
+  pub noted : isBookText text ≡ true → Noted text index₀ acc index count at
   pub within : at ≤ length text
   pub few : Few acc (at / 2)
   pub short : count ≤ at
-  pub long : length grams ≡ length grams₀
+  pub long : length index ≡ length index₀
   pub places : length row ≡ 20
 
-pub walk-start : (text : List ℕ) (grams row : List ℤ) → length row ≡ 20 → Walked text grams fresh grams row 0 0
-walk-start text grams row l = record {
+pub walk-start : (text : List ℕ) (index row : List ℤ) → length row ≡ 20 → Walked text index fresh index row 0 0
+walk-start text index row l = record {
   ends = refl;
   noted = λ t. record { line = at-start text t; surveyed = refl; gathered = refl; asked = refl; total = zero-add (length (loadedOf text)) };
   within = omega arith;
@@ -62,7 +62,7 @@ walk-start text grams row l = record {
 pub row-later : {text : List ℕ} {at : ℕ} {row row′ : List ℤ} {r : TextLine} → RowRead text at row row′ r → r .good ≡ true → isWhole (numbersAt text at) ≡ true → at < r .end
 row-later {text} {at} f g e = omega (arith, f .long g, emit-few true Line (drop at text), four-numbers (numbersAt text at) e)
 
-module _ {text : List ℕ} {grams₀ grams row row′ : List ℤ} {acc : Survey} {count at : ℕ} (w : Walked text grams₀ acc grams row count at) (r : TextLine) (f : RowRead text at row row′ r) where
+module _ {text : List ℕ} {index₀ index row row′ : List ℤ} {acc : Survey} {count at : ℕ} (w : Walked text index₀ acc index row count at) (r : TextLine) (f : RowRead text at row row′ r) where
   -- a line that is not good: the text is no book's
   pub walk-bad : r .good ≡ false → isBookText text ≡ true → all isWhole (textLines text) ≡ false
   walk-bad g t =
@@ -81,18 +81,18 @@ module _ {text : List ℕ} {grams₀ grams row row′ : List ℤ} {acc : Survey}
 
     -- a line that is
     module _ (e : isWhole (numbersAt text at) ≡ true) where
-      noted-next : isBookText text ≡ true → Noted text grams₀ (withLine acc (numbersAt text at)) (withGram grams (acc .ts) (numbersAt text at)) (count + r .count) (r .end)
+      noted-next : isBookText text ≡ true → Noted text index₀ (withLine acc (numbersAt text at)) (withGram index (acc .ts) (numbersAt text at)) (count + r .count) (r .end)
       unfolding surveyFrom gramsFrom withLine
       noted-next t = let p = w .noted t in let n = row-next t in record {
         line = n .then;
         surveyed = sym (ap (surveyFrom acc) (n .lines)) ∙ p .surveyed;
-        gathered = sym (ap (gramsFrom grams (acc .ts)) (n .lines)) ∙ p .gathered;
+        gathered = sym (ap (gramsFrom index (acc .ts)) (n .lines)) ∙ p .gathered;
         asked = sym (ap (all isWhole) (n .lines) ∙ ap (λ (x : Bool). x && all isWhole (textLines (drop (r .end) text))) e) ∙ p .asked;
         total = omega (arith, p .total, f .counted g, ap length (n .loaded), length-append (numbersAt text at) (loadedOf (drop (r .end) text)));
       }
 
       -- it has four bytes at least: so even of the longest text there are not too many lines to count
-      pub walk-next : Walked text grams₀ (withLine acc (numbersAt text at)) (withGram grams (acc .ts) (numbersAt text at)) row′ (count + r .count) (r .end)
+      pub walk-next : Walked text index₀ (withLine acc (numbersAt text at)) (withGram index (acc .ts) (numbersAt text at)) row′ (count + r .count) (r .end)
       walk-next =
           let four = four-numbers (numbersAt text at) e in
           let most = emit-few true Line (drop at text) in
@@ -102,15 +102,15 @@ module _ {text : List ℕ} {grams₀ grams row row′ : List ℤ} {acc : Survey}
             within = f .within g;
             few = few-more (few-line acc (numbersAt text at) (at / 2) (w .few)) (omega (arith, four, most, f .long g));
             short = omega (arith, w .short, most, f .long g, f .counted g);
-            long = gram-long grams (numbersAt text at) (acc .ts) ∙ w .long;
+            long = gram-long index (numbersAt text at) (acc .ts) ∙ w .long;
             places = f .same ∙ w .places;
           }
 
 -- at the end of a text that is not empty
-pub walk-end : {text : List ℕ} {grams₀ grams row : List ℤ} {acc : Survey} {count at : ℕ} → Walked text grams₀ acc grams row count at → length text ≤ at → (length text ≡ 0 → ⊥)
-    → WholeText text grams₀ grams acc count
+pub walk-end : {text : List ℕ} {index₀ index row : List ℤ} {acc : Survey} {count at : ℕ} → Walked text index₀ acc index row count at → length text ≤ at → (length text ≡ 0 → ⊥)
+    → WholeText text index₀ index acc count
 unfolding surveyFrom gramsFrom
-walk-end {text} {grams₀} {grams} {row} {acc} {count} {at} w h s =
+walk-end {text} {index₀} {index} {row} {acc} {count} {at} w h s =
     let t : isBookText text ≡ true = sym (book-text text s) ∙ sym (w .ends) ∙ ap (λ (x : List ℕ). atLine (run true Line x)) (drop-of-length-le text h) in
     let p = w .noted t in
     let none : textLines (drop at text) ≡ [] = at-end text at h in
@@ -119,7 +119,7 @@ walk-end {text} {grams₀} {grams} {row} {acc} {count} {at} w h s =
       lines = record {
         whole = sym (p .asked) ∙ ap (all isWhole) none;
         surveyed = sym (ap (surveyFrom acc) none) ∙ p .surveyed;
-        gathered = sym (ap (gramsFrom grams (acc .ts)) none) ∙ p .gathered;
+        gathered = sym (ap (gramsFrom index (acc .ts)) none) ∙ p .gathered;
       };
       counted = omega (arith, p .total, ap length (loaded-end text at h));
     }

@@ -22,15 +22,15 @@ abbrev pub textRefusal : List ℕ → ℕ
 textRefusal text = 1 unless isBookText text orelse linesRefusal (textLines text)
 
 -- it is a book's text, its lines are whole and s is their survey, and it has `count` numbers
-pub record WholeText (text : List ℕ) (grams₀ grams₁ : List ℤ) (s : Survey) (count : ℕ) : Type 0 where
+pub record WholeText (text : List ℕ) (index₀ index₁ : List ℤ) (s : Survey) (count : ℕ) : Type 0 where
   pub formed : isBookText text ≡ true
-  pub lines : WholeAs (textLines text) grams₀ grams₁ s
+  pub lines : WholeAs (textLines text) index₀ index₁ s
   pub counted : count ≡ length (loadedOf text)
 
 -- questions 1 and 2 of a text; where both pass, its survey
 abbrev pub TextSurveyIs : List ℕ → List ℤ → List ℤ → TextSurvey → Type 0
-TextSurveyIs text grams₀ grams₁ (Whole s count) = WholeText text grams₀ grams₁ s count
-TextSurveyIs text grams₀ grams₁ Broken = isBookText text ≡ true → all isWhole (textLines text) ≡ false
+TextSurveyIs text index₀ index₁ (Whole s count) = WholeText text index₀ index₁ s count
+TextSurveyIs text index₀ index₁ Broken = isBookText text ≡ true → all isWhole (textLines text) ≡ false
 
 -- the answer with the count of the numbers, without what a search needs
 abbrev pub countedAs : Loaded → ℕ → Read

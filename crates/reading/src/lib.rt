@@ -14,6 +14,7 @@ ghost use Rattle.laws.specs.Lists.{all};
 ghost use Rattle.notes.specs.Questions.{number};
 ghost use Rattle.notes.specs.Book.{isBookText, isWhole, textLines, loadedOf};
 ghost use Rattle.notes.specs.Reply.{readReply, reply, readBook, readBookList};
+ghost use Rattle.ngrams.specs.Parts.{recordsEnd};
 ghost use Rattle.reading.specs.Text.{TextSurveyIs, textRefusal, countedAs};
 
 // What is known of the lines of a text that are all good and whole, and how many numbers they have; or that one is not.
@@ -22,11 +23,11 @@ enum TextSurvey {
     Broken,
 }
 
-// Surveys a text, whatever it is; `grams` gets the triples of its T lines. Where a line is not good, or not whole, what `grams`
+// Surveys a text, whatever it is; `index` gets the records of its T lines. Where a line is not good, or not whole, what `index`
 // holds afterwards is not said. No whole line has more than 20 numbers.
-fn survey_text(text: &[u8], grams: &mut [i32]) -> TextSurvey
-    requires { ⌜ 32_768 ≤ length (now grams) ⌝ }
-    ensures { λ r. ⌜ TextSurveyIs (now (text .entry)) (now (grams .entry)) (now (grams .exit)) r ⌝ }
+fn survey_text(text: &[u8], index: &mut [i32]) -> TextSurvey
+    requires { ⌜ recordsEnd ≤ length (now index) ⌝ }
+    ensures { λ r. ⌜ TextSurveyIs (now (text .entry)) (now (index .entry)) (now (index .exit)) r ⌝ }
 {
     if text.len() == 0 {
         return TextSurvey::Broken;
@@ -47,7 +48,7 @@ fn survey_text(text: &[u8], grams: &mut [i32]) -> TextSurvey
         if !lines::is_whole(&row[..n]) {
             return TextSurvey::Broken;
         }
-        acc = grams::note_line(acc, grams, &row[..n]);
+        acc = grams::note_line(acc, index, &row[..n]);
         count += n;
         at = read.end;
     }
@@ -79,14 +80,12 @@ fn counted(loaded: Loaded, count: usize) -> Read
 fn check_text(text: &[u8]) -> Read
     ensures { λ r. ⌜ readReply r ≡ reply (textRefusal (now (text .entry))) (length (loadedOf (now (text .entry)))) ⌝ }
 {
-    let mut grams = [0i32; 32768];
-    let mut heads = [0u16; 8192];
-    let mut links = [0u16; 8192];
-    let surveyed = survey_text(text, &mut grams);
+    let mut index = [0i32; ngrams::RECORDS_END];
+    let surveyed = survey_text(text, &mut index);
     let TextSurvey::Whole { survey, count } = surveyed else {
         return Read::Refused(refusal_of(text));
     };
-    let loaded = load::settle_whole(survey, &grams, &mut heads, &mut links);
+    let loaded = load::settle_whole(survey, &mut index);
     counted(loaded, count)
 }
 

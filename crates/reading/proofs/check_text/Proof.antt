@@ -30,12 +30,6 @@ returns c = refused-reply (c .refusal-of .result) (textRefusal (c .before .befor
 slice-aggregate-settle-whole : tie.Need-slice-aggregate-settle-whole
 slice-aggregate-settle-whole c = search needs
 
-slice-aggregate-settle-whole-2 : tie.Need-slice-aggregate-settle-whole-2
-slice-aggregate-settle-whole-2 c = search needs
-
-slice-aggregate-settle-whole-3 : tie.Need-slice-aggregate-settle-whole-3
-slice-aggregate-settle-whole-3 c = search needs
-
 settle-whole-requires : tie.Need-settle-whole-requires
 settle-whole-requires c κs = search needs
 
@@ -44,11 +38,11 @@ counted-requires c κs = search needs
 
 returns-2 : tie.Need-returns-2
 returns-2 c =
-    let t = c .before .before .before .before .before .before .before .before .before .before .before .before .before .before .args .text .now in
-    let k = c .before .before .before .settle-whole in
-    let s = rw (c .before .before .before .before .before .before .before .before .surveyed .given .1) at (c .before .before .before .before .before .before .before .before .before .before .before .survey-text .ensures) in
+    let t = c .before .before .before .before .before .before .before .before .before .before .before .args .text .now in
+    let k = c .before .before .settle-whole in
+    let s = rw (c .before .before .before .before .before .surveyed .given .1) at (c .before .before .before .before .before .before .before .before .survey-text .ensures) in
     ap readReply (c .counted .ensures)
-    ∙ answer-counted t (c .before .before .before .before .before .before .before .before .surveyed .given .0 .1 .0) _ _ _ _ (k .result) (s .formed) (s .counted) (k .ensures (textLines t) _ (s .lines))
+    ∙ answer-counted t (c .before .before .before .before .before .surveyed .given .0 .1 .0) _ _ (k .result) (s .formed) (s .counted) (k .ensures (textLines t) _ (s .lines))
 
 pub check-text-spec : {M : Type 1} → statement M
 check-text-spec =
@@ -61,8 +55,6 @@ check-text-spec =
     refusal-of-requires
     returns
     slice-aggregate-settle-whole
-    slice-aggregate-settle-whole-2
-    slice-aggregate-settle-whole-3
     settle-whole-requires
     counted-requires
     returns-2)

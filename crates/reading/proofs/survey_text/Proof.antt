@@ -19,10 +19,10 @@ use Rattle.reading.proofs.survey_text.Statement.{statement}
 use Rattle.reading.proofs.survey_text.Tie as tie
 
 abbrev Inv-loop : tie.InvT-loop
-Inv-loop text grams₀ row₀ acc₀ count₀ at₀ grams row acc count at = Walked text grams₀ acc grams row count at
+Inv-loop text index₀ row₀ acc₀ count₀ at₀ index row acc count at = Walked text index₀ acc index row count at
 
 abbrev μ-loop : tie.MeasureT-loop
-μ-loop text grams₀ row₀ acc₀ count₀ at₀ grams row acc count at = length text - at
+μ-loop text index₀ row₀ acc₀ count₀ at₀ index row acc count at = length text - at
 
 -- the line at `at` is good
 good : (c : tie.Else2 Inv-loop μ-loop) → c .before .before .before .read-row .result .good ≡ true
@@ -47,7 +47,7 @@ fresh-requires : tie.Need-fresh-requires Inv-loop μ-loop
 fresh-requires c κs = tt
 
 loop-holds : tie.Need-loop-holds Inv-loop μ-loop
-loop-holds c = rw (c .fresh .ensures) (walk-start (c .before .before .before .args .text .now) (c .before .before .before .args .grams .now) _ refl)
+loop-holds c = rw (c .fresh .ensures) (walk-start (c .before .before .before .args .text .now) (c .before .before .before .args .index .now) _ refl)
 
 slice-aggregate-read-row : tie.Need-slice-aggregate-read-row Inv-loop μ-loop
 slice-aggregate-read-row c = sym (c .before .before .loop .inv .places)
