@@ -6,11 +6,19 @@ ghost use Prim.Native.Nat.{_+_, _^_, _≤_, _<_};
 ghost use lib.ListN.{length, drop};
 ghost use Rattle.laws.specs.Bits.{one};
 ghost use Rattle.notes.specs.Book.{isP, bookRefusal};
-ghost use Rattle.book.specs.Entries.{entriesFrom, indexSize, withPlace, Placed};
+ghost use Rattle.book.specs.Entries.{entriesFrom, indexSize, entryPlace, withPlace, Placed};
 
 // Where the places of the entries begin, and how long the list is with them.
-pub const ENTRIES: usize = 49152;
+const ENTRIES: usize = 49152;
 pub const INDEX_SIZE: usize = 53248;
+
+// Where entry k, counted from 0, stands in the loaded book.
+pub fn entry_place(index: &[i32], k: usize) -> usize
+    requires { ⌜ entriesFrom + k < length (now index) ⌝ }
+    ensures { λ r. ⌜ r ≡ entryPlace (now (index .entry)) k ⌝ }
+{
+    ngrams::natural_in(index, ENTRIES + k)
+}
 
 // The place of the line at `at`, put behind the `count` places before it where the line is a P line; how many there are then.
 fn put_place(book: &[i32], at: usize, index: &mut [i32], count: usize) -> usize

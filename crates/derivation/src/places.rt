@@ -14,7 +14,7 @@ pub fn phrase_at(book: &[i32], index: &[i32], count: usize, k: usize) -> Phrase
     requires { ⌜ (1 ≤ k) × (k ≤ count) ⌝ }
     ensures { λ p. ⌜ PhraseOf (now (book .entry)) (entryAt (bookOf (now (book .entry))) k) p ⌝ }
 {
-    let at = ngrams::natural_in(index, entries::ENTRIES + k - 1);
+    let at = entries::entry_place(index, k - 1);
     let long = lines::natural_at(book, at + 1);
     let count = lines::natural_at(book, at + 2);
     let g = lines::number_at(book, at + (3 + long + count));

@@ -17,12 +17,12 @@ use Rattle.derivation.proofs.model.say_word.Reads as say-word-reads
 use Rattle.derivation.proofs.model.word_at.Reads as word-at-reads
 
 abbrev Inv-loop : tie.InvT-loop
-Inv-loop book grams heads links t p word1 word2 s₀ j₀ s j =
+Inv-loop book index t p word1 word2 s₀ j₀ s j =
     (j ≤ p .count) × (Within (j * 1000000) (s .score)
-    × ((e : Entry) → PhraseOf book e p → sayAll grams t s (drop j (e .target)) ≡ sayAll grams t (silent word1 word2) (e .target)))
+    × ((e : Entry) → PhraseOf book e p → sayAll index t s (drop j (e .target)) ≡ sayAll index t (silent word1 word2) (e .target)))
 
 abbrev μ-loop : tie.MeasureT-loop
-μ-loop book grams heads links t p word1 word2 s₀ j₀ s j = p .count - j
+μ-loop book index t p word1 word2 s₀ j₀ s j = p .count - j
 
 -- src/model.rt:53:5
 loop-holds : tie.Need-loop-holds Inv-loop μ-loop
@@ -31,7 +31,7 @@ loop-holds c = (omega arith, (omega arith, λ e h. refl))
 -- src/model.rt:54:31
 add-word-at : tie.Need-add-word-at Inv-loop μ-loop
 add-word-at c =
-    let b = c .before .before .before .before .before .before in
+    let b = c .before .before .before .before in
     let w = b .pre .1 .is .target-at in
     let i = w .inside in
     search needs
@@ -39,7 +39,7 @@ add-word-at c =
 -- src/model.rt:54:13
 word-at-requires : tie.Need-word-at-requires Inv-loop μ-loop
 word-at-requires c κs =
-    let b = c .before .before .before .before .before .before in
+    let b = c .before .before .before .before in
     let w = b .pre .1 .is .target-at in
     let i = w .inside in
     let h = c .before .if1 .taken in
@@ -48,7 +48,7 @@ word-at-requires c κs =
 -- src/model.rt:55:9
 say-word-requires : tie.Need-say-word-requires Inv-loop μ-loop
 say-word-requires c κs =
-    let b = c .before .before .before .before .before .before .before in
+    let b = c .before .before .before .before .before in
     let l = c .before .before .before .before .loop in
     let f = b .pre .1 .is .target-at .few in
     let h = c .before .before .if1 .taken in
@@ -65,28 +65,28 @@ loop-less c = omega arith
 -- src/model.rt:53:5
 loop-again : tie.Need-loop-again Inv-loop μ-loop
 loop-again c =
-    let b = c .before .before .before .before .before .before .before .before in
+    let b = c .before .before .before .before .before .before in
     let l = c .before .before .before .before .before .loop in
     let h : l .j < b .args .p .count = c .before .before .before .if1 .taken in (
       omega arith,
       (
-        rw (c .say-word .ensures) (say-within (b .args .grams .now) (b .args .t) (b .pre .0 .scores-within) (l .s) _ (l .j) (l .inv .1 .0)),
+        rw (c .say-word .ensures) (say-within (b .args .index .now) (b .args .t) (b .pre .0 .scores-within) (l .s) _ (l .j) (l .inv .1 .0)),
         λ e q.
             let w = q .target-at in
             let m = w .many-are in
             rw (c .say-word .ensures, c .before .word-at .ensures, word-is w (l .j) h)
-            (sym (say-next (b .args .grams .now) (b .args .t) (l .s) (e .target) (l .j) (omega arith)) ∙ l .inv .1 .1 e q),
+            (sym (say-next (b .args .index .now) (b .args .t) (l .s) (e .target) (l .j) (omega arith)) ∙ l .inv .1 .1 e q),
       ),
     )
 
 -- src/model.rt:41:1
 returns : tie.Need-returns Inv-loop μ-loop
 returns c =
-    let b = c .before .before .before .before .before in
+    let b = c .before .before .before in
     let l = c .before .before .loop in
     let f = b .pre .1 .is .target-at .few in
     let h = c .if1 .left in (
-      λ e q. let m = q .target-at .many-are in sym (say-end (b .args .grams .now) (b .args .t) (l .s) (e .target) (l .j) (omega arith)) ∙ l .inv .1 .1 e q,
+      λ e q. let m = q .target-at .many-are in sym (say-end (b .args .index .now) (b .args .t) (l .s) (e .target) (l .j) (omega arith)) ∙ l .inv .1 .1 e q,
       within-mono (omega arith) (l .inv .1 .0),
     )
 

@@ -11,29 +11,24 @@ use Rattle.laws.proofs.Bounds.{within-fits}
 use Rattle.laws.proofs.Got.{i32}
 use Rattle.notes.specs.Book.{bookOf, numberAt, naturalAt}
 use Rattle.notes.specs.Derivation.{noEntry, entryAt}
-use Rattle.book.specs.Entries.{EntryAt}
+use Rattle.book.specs.Entries.{EntryAt, entryPlace}
 use Rattle.derivation.proofs.Entries.{entry-stands}
 use Rattle.derivation.proofs.places.phrase_at.Statement.{statement}
 use Rattle.derivation.proofs.places.phrase_at.Tie as tie
 
-entry : (b : tie.Start) → EntryAt (b .args .book .now) (getD (b .args .entries .now) (b .args .k - 1) 0) (getD (bookOf (b .args .book .now) .entries) (b .args .k - 1) noEntry)
-entry b = b .pre .0 .each (b .args .k - 1) (let h = b .pre .1 in omega arith)
+entry : (c : tie.After-entry-place) → EntryAt (c .before .args .book .now) (c .entry-place .result) (getD (bookOf (c .before .args .book .now) .entries) (c .before .args .k - 1) noEntry)
+entry c = rw (c .entry-place .ensures) (c .before .pre .0 .each (c .before .args .k - 1) (let h = c .before .pre .1 in omega arith))
 
 -- src/places.rt:17:22
-sub-at : tie.Need-sub-at
-sub-at c = search needs
+sub-entry-place : tie.Need-sub-entry-place
+sub-entry-place c = search needs
 
--- src/places.rt:17:14
-mul-at : tie.Need-mul-at
-mul-at c = search needs
-
--- src/places.rt:17:14
-shared-slice-read-at : tie.Need-shared-slice-read-at
-shared-slice-read-at c = search needs
+entry-place-requires : tie.Need-entry-place-requires
+entry-place-requires c κs = omega (arith, c .pre .0 .room, c .pre .0 .few, c .pre .1)
 
 -- src/places.rt:18:45
 add-natural-at : tie.Need-add-natural-at
-add-natural-at c = let i = entry (c .before .before) .inside in search needs
+add-natural-at c = let i = entry c .inside in search needs
 
 -- src/places.rt:18:9
 natural-at-requires : tie.Need-natural-at-requires
@@ -41,7 +36,7 @@ natural-at-requires c κs = search needs
 
 -- src/places.rt:19:46
 add-natural-at-2 : tie.Need-add-natural-at-2
-add-natural-at-2 c = let i = entry (c .before .before .before) .inside in search needs
+add-natural-at-2 c = let i = entry (c .before) .inside in search needs
 
 -- src/places.rt:19:9
 natural-at-requires-2 : tie.Need-natural-at-requires-2
@@ -49,15 +44,15 @@ natural-at-requires-2 c κs = search needs
 
 -- src/places.rt:20:47
 add-number-at : tie.Need-add-number-at
-add-number-at c = let h = entry (c .before .before .before .before) in let i = h .inside in let a = c .before .natural-at .ensures in let b = c .natural-at2 .ensures in let l = h .a-to in let m = h .b-to in search needs
+add-number-at c = let h = entry (c .before .before) in let i = h .inside in let a = c .before .natural-at .ensures in let b = c .natural-at2 .ensures in let l = h .a-to in let m = h .b-to in search needs
 
 -- src/places.rt:20:47
 add-number-at-2 : tie.Need-add-number-at-2
-add-number-at-2 c = let h = entry (c .before .before .before .before) in let i = h .inside in let a = c .before .natural-at .ensures in let b = c .natural-at2 .ensures in let l = h .a-to in let m = h .b-to in search needs
+add-number-at-2 c = let h = entry (c .before .before) in let i = h .inside in let a = c .before .natural-at .ensures in let b = c .natural-at2 .ensures in let l = h .a-to in let m = h .b-to in search needs
 
 -- src/places.rt:20:41
 add-number-at-3 : tie.Need-add-number-at-3
-add-number-at-3 c = let h = entry (c .before .before .before .before) in let i = h .inside in let a = c .before .natural-at .ensures in let b = c .natural-at2 .ensures in let l = h .a-to in let m = h .b-to in search needs
+add-number-at-3 c = let h = entry (c .before .before) in let i = h .inside in let a = c .before .natural-at .ensures in let b = c .natural-at2 .ensures in let l = h .a-to in let m = h .b-to in search needs
 
 -- src/places.rt:20:9
 number-at-requires : tie.Need-number-at-requires
@@ -65,22 +60,22 @@ number-at-requires c κs = search needs
 
 -- src/places.rt:22:17
 add-t9 : tie.Need-add-t9
-add-t9 c = let h = entry (c .before .before .before .before .before) in let i = h .inside in let a = c .before .before .natural-at .ensures in let b = c .before .natural-at2 .ensures in let l = h .a-to in let m = h .b-to in search needs
+add-t9 c = let h = entry (c .before .before .before) in let i = h .inside in let a = c .before .before .natural-at .ensures in let b = c .before .natural-at2 .ensures in let l = h .a-to in let m = h .b-to in search needs
 
 -- src/places.rt:24:23
-add-t10 : tie.Need-add-t10
-add-t10 c = let h = entry (c .before .before .before .before .before) in let i = h .inside in let a = c .before .before .natural-at .ensures in let b = c .before .natural-at2 .ensures in let l = h .a-to in let m = h .b-to in search needs
+add-t11 : tie.Need-add-t11
+add-t11 c = let h = entry (c .before .before .before) in let i = h .inside in let a = c .before .before .natural-at .ensures in let b = c .before .natural-at2 .ensures in let l = h .a-to in let m = h .b-to in search needs
 
 -- src/places.rt:24:17
-add-t12 : tie.Need-add-t12
-add-t12 c = let h = entry (c .before .before .before .before .before) in let i = h .inside in let a = c .before .before .natural-at .ensures in let b = c .before .natural-at2 .ensures in let l = h .a-to in let m = h .b-to in search needs
+add-t10 : tie.Need-add-t10
+add-t10 c = let h = entry (c .before .before .before) in let i = h .inside in let a = c .before .before .natural-at .ensures in let b = c .before .natural-at2 .ensures in let l = h .a-to in let m = h .b-to in search needs
 
 -- src/places.rt:26:12
-cast-t13 : tie.Need-cast-t13
-cast-t13 c =
-    let s = c .before .before .before .before .before .args in
-    let at = getD (s .entries .now) (s .k - 1) 0 in
-    let h = entry (c .before .before .before .before .before) in
+cast-t12 : tie.Need-cast-t12
+cast-t12 c =
+    let s = c .before .before .before .before .args in
+    let at = c .before .before .before .entry-place .result in
+    let h = entry (c .before .before .before) in
     let p : i32 (c .number-at .result) ≡ c .number-at .result = search needs in
     let r : c .number-at .result ≡ numberAt (s .book .now) (at + (3 + naturalAt (s .book .now) (at + 1) + naturalAt (s .book .now) (at + 2))) =
     rw (c .before .before .natural-at .ensures, c .before .natural-at2 .ensures) at (c .number-at .ensures) in
@@ -91,16 +86,16 @@ returns : tie.Need-returns
 unfolding entryAt
 returns c =
     let p : i32 (c .number-at .result) ≡ c .number-at .result = search needs in
-    entry-stands (entry (c .before .before .before .before .before)) (c .before .before .natural-at .result) (c .before .natural-at2 .result) _
-    (c .before .before .natural-at .ensures) (c .before .natural-at2 .ensures) (toZ-ofZ (cast-t13 c) ∙ p ∙ c .number-at .ensures)
+    entry-stands (entry (c .before .before .before)) (c .before .before .natural-at .result) (c .before .natural-at2 .result) _
+    (c .before .before .natural-at .ensures) (c .before .natural-at2 .ensures) (toZ-ofZ (cast-t12 c) ∙ p ∙ c .number-at .ensures)
+
 
 pub phrase-at-spec : {M : Type 1} → statement M
 phrase-at-spec =
     tie.close
     (tie.spec
-    sub-at
-    mul-at
-    shared-slice-read-at
+    sub-entry-place
+    entry-place-requires
     add-natural-at
     natural-at-requires
     add-natural-at-2
@@ -110,7 +105,7 @@ phrase-at-spec =
     add-number-at-3
     number-at-requires
     add-t9
+    add-t11
     add-t10
-    add-t12
-    cast-t13
+    cast-t12
     returns)

@@ -4,8 +4,10 @@ use Prim.Native.Nat.{_+_}
 use mathlib.Core.Path.{_≡_, sym, subst}
 use native.Mathlib.Omega.{arith}
 use lib.IntN.{_+ℤ_}
+use mir.Facts.{toZ-ofZ}
 use mir.Syntax.{w64}
 use Rattle.laws.specs.Integers.{Within}
+use Rattle.laws.proofs.Bounds.{within-fits}
 use Rattle.laws.proofs.Got.{Got, i64, held, add, fits, kept}
 use Rattle.notes.specs.State.{scoreBound}
 use Rattle.derivation.proofs.Says.{next-is}
@@ -13,11 +15,11 @@ use Rattle.derivation.proofs.step.next_state.Statement.{statement}
 use Rattle.derivation.proofs.step.next_state.Tie as tie
 
 total : (c : tie.After-covered-with)
-    → Got (scoreBound + 9320000) (i64 (c .before .before .before .before .before .before .before .before .args .s .score) +ℤ i64 (c .before .before .gain .result))
-    (c .before .before .before .before .before .before .before .before .args .s .score +ℤ c .before .before .gain .result)
+    → Got (scoreBound + 9320000) (i64 (c .before .before .before .before .before .before .args .s .score) +ℤ i64 (c .before .before .gain .result))
+    (c .before .before .before .before .before .before .args .s .score +ℤ c .before .before .gain .result)
 total c =
-    let b = c .before .before .before .before .before .before .before .before in
-    let old : i64 (b .args .s .score) ≡ b .args .s .score = search needs in
+    let b = c .before .before .before .before .before .before in
+    let old : i64 (b .args .s .score) ≡ b .args .s .score = toZ-ofZ (within-fits w64 {B = scoreBound} (b .pre .1 .1 .score-within) (omega arith)) in
     let new : i64 (c .before .before .gain .result) ≡ c .before .before .gain .result = search needs in
     add (held old (b .pre .1 .1 .score-within)) (held new (c .before .before .gain .ensures .1))
 
@@ -36,7 +38,7 @@ jump-requires c κs = search needs
 -- src/step.rt:48:9
 gain-requires : tie.Need-gain-requires
 gain-requires c κs =
-    let b = c .before .before .before .before .before in
+    let b = c .before .before .before in
     let p = b .pre .1 .0 in
     let j = c .jump .ensures in
     let n = b .pre .1 .1 .near in
@@ -47,21 +49,22 @@ covered-with-requires : tie.Need-covered-with-requires
 covered-with-requires c κs = search needs
 
 -- src/step.rt:54:12
-cast-t16 : tie.Need-cast-t16
-cast-t16 c = search needs
+cast-t14 : tie.Need-cast-t14
+cast-t14 c = search needs
 
 -- src/step.rt:55:16
-add-t17 : tie.Need-add-t17
-add-t17 c = fits (total c) (omega arith)
+add-t15 : tie.Need-add-t15
+add-t15 c = fits (total c) (omega arith)
 
 -- src/step.rt:41:1
 returns : tie.Need-returns
 returns c = λ e q.
-    let b = c .before .before .before .before .before .before .before .before in
-    next-is (b .args .grams .now) (b .args .t) (b .args .p) e (b .args .first) (b .args .last) (b .args .s)
+    let b = c .before .before .before .before .before .before in
+    next-is (b .args .index .now) (b .args .t) (b .args .p) e (b .args .first) (b .args .last) (b .args .s)
     (c .before .before .before .before .before .say .result) (c .before .before .before .jump .result) (c .covered-with .result) (c .before .before .gain .result) _
     (c .before .before .before .before .before .say .ensures .0 e q) (c .before .before .before .jump .ensures) (c .covered-with .ensures) (c .before .before .gain .ensures .0)
     (kept w64 (total c) (omega arith) .is)
+
 
 pub next-state-spec : {M : Type 1} → statement M
 next-state-spec =
@@ -72,6 +75,6 @@ next-state-spec =
     jump-requires
     gain-requires
     covered-with-requires
-    cast-t16
-    add-t17
+    cast-t14
+    add-t15
     returns)
