@@ -36,41 +36,48 @@ use Rattle.store.specs.Store.{placeAt}
 use Rattle.answer.specs.Told.{Ends, Told}
 use Rattle.extending.specs.Extend.{Choices}
 use Rattle.derivation.proofs.Says.{word-is}
+use Rattle.options.specs.Options.{optionsFrom, startAt, optionIn}
 
 -- ════ the position of an option
 
 -- a position that begins no later than the option does not lie behind all options
-pub below-end : (starts : List ℕ) (i n o : ℕ) → getD starts i 0 ≤ o → o < getD starts n 0 → i ≤ n → i < n
-below-end starts i n o a b h = by (ℕ-discrete i n)
+pub below-end : (options : List ℕ) (i n o : ℕ) → startAt options i ≤ o → o < startAt options n → i ≤ n → i < n
+below-end options i n o a b h = by (ℕ-discrete i n)
   where
     by : Dec (i ≡ n) → i < n
-    by (yes e) = let c : o < getD starts i 0 = rw e b in absurd (omega arith)
+    by (yes e) = let c : o < startAt options i = rw e b in absurd (omega arith)
     by (no q) = omega arith
 
-module _ {loaded : List ℤ} {direction entries options starts : List ℕ} {t : Task} (C : Choices loaded direction entries options starts t)
+module _ {loaded : List ℤ} {direction entries options : List ℕ} {t : Task} (C : Choices loaded direction entries options t)
     {o : ℕ} (ho : o < length (fittingSteps (bookOf loaded) direction)) where
-  pub option-to : o < getD starts (t .n) 0
+  pub option-to : o < startAt options (t .n)
   option-to = let e = C .options-of .ends in let n = C .n-is in rw n (omega arith)
 
-  pub option-from : getD starts 0 0 ≤ o
+  pub option-from : startAt options 0 ≤ o
   option-from = let e = C .options-of .begins in omega arith
 
-  pub option-room : o < length options
+  pub option-starts : (t .n ≤ 32) × (optionsFrom ≤ length options)
+  option-starts = let n = C .n-is in let f = C .few in let r = C .options-of .room in (omega arith, omega arith)
+
+  pub option-room : optionsFrom + o < length options
   option-room = let e = C .options-of .ends in let r = C .options-of .room in omega arith
 
-  pub option-entry : (1 ≤ getD options o 0) × (getD options o 0 ≤ t .phrases)
-  option-entry =
-      let e = C .options-of .ends in
-      let b = C .options-of .entries-in o (omega arith) in
-      let m = C .phrases-are in
-      (b .0, (let h = b .1 in omega arith))
+  module _ {k : ℕ} (read : k ≡ optionIn options o) where
+    pub option-entry : (1 ≤ k) × (k ≤ t .phrases)
+    option-entry =
+        let e = C .options-of .ends in
+        let b = C .options-of .entries-in o (omega arith) in
+        let m = C .phrases-are in
+        let f = b .0 in
+        let l = b .1 in
+        (omega arith, omega arith)
 
-  module _ {i : ℕ} (h : i < t .n) (a : getD starts i 0 ≤ o) (b : o < getD starts (i + 1) 0) {p : Phrase} (of : PhraseOf loaded (entryAt (bookOf loaded) (getD options o 0)) p) where
-    is-step : optionAt (bookOf loaded) direction o ≡ stepAt (bookOf loaded) (i + 1) (getD options o 0)
-    is-step = let n = C .n-is in C .options-of .each i o (omega arith) a b
+    module _ {i : ℕ} (h : i < t .n) (a : startAt options i ≤ o) (b : o < startAt options (i + 1)) {p : Phrase} (of : PhraseOf loaded (entryAt (bookOf loaded) k) p) where
+      is-step : optionAt (bookOf loaded) direction o ≡ stepAt (bookOf loaded) (i + 1) k
+      is-step = let n = C .n-is in C .options-of .each i o (omega arith) a b ∙ ap (stepAt (bookOf loaded) (i + 1)) (sym read)
 
-    pub option-step : record { first = i + 1; last = i + 1 + p .long - 1; entry = getD options o 0 } ≡ optionAt (bookOf loaded) direction o
-    option-step = let m = of .source-at .many-are in rw (m) (sym is-step)
+      pub option-step : record { first = i + 1; last = i + 1 + p .long - 1; entry = k } ≡ optionAt (bookOf loaded) direction o
+      option-step = let m = of .source-at .many-are in rw (m) (sym is-step)
 
 -- ════ the words of one entry
 
@@ -176,7 +183,7 @@ module _ {book : Book} {direction : List ℕ} {st : List ℤ} {k : ℕ} {q : Hyp
         ∙ way-is (optionAt book direction) out (getD (E .list) k nobody .steps) (omega arith) (λ i g. W .step-is i (omega arith)) ∙ steps-same
 
 -- each of the steps has an entry of the book
-module _ {loaded : List ℤ} {direction entries options starts : List ℕ} {t : Task} (C : Choices loaded direction entries options starts t) where
+module _ {loaded : List ℤ} {direction entries options : List ℕ} {t : Task} (C : Choices loaded direction entries options t) where
   pub step-entry : (plain : Plain) (out : List ℕ) (d : ℕ) → (plain .count ≡ d) × (stepsOf plain ≡ map (optionAt (bookOf loaded) direction) (take d out))
       → ((i : ℕ) → i < d → getD out i 0 < length (fittingSteps (bookOf loaded) direction))
       → (i : ℕ) → i < plain .count → (1 ≤ stepIn plain i .entry) × (stepIn plain i .entry ≤ t .phrases)

@@ -15,6 +15,7 @@ ghost use Rattle.notes.specs.Search.{fittingSteps};
 ghost use Rattle.derivation.specs.Model.{PhraseOf, Phrased};
 ghost use Rattle.notes.specs.Derivation.{targetWords};
 ghost use Rattle.book.specs.Entries.{EntriesAt};
+ghost use Rattle.options.specs.Options.{optionsFrom, startAt};
 ghost use Rattle.records.specs.Plain.{stepIn, stepsOf};
 ghost use Rattle.states.specs.Ghost.{optionAt};
 ghost use Rattle.notes.specs.Direction.{wordCount};
@@ -29,12 +30,13 @@ pub struct Core {
 }
 
 // The position, counted from 0, at which the option o stands: each position's options begin where those before it end.
-fn position_of(starts: &[usize], n: usize, o: usize) -> usize
-    requires { ⌜ (n < length (now starts)) × ((getD (now starts) 0 0 ≤ o) × (o < getD (now starts) n 0)) ⌝ }
-    ensures { λ r. ⌜ (r < n) × ((getD (now (starts .entry)) r 0 ≤ o) × (o < getD (now (starts .entry)) (r + 1) 0)) ⌝ }
+fn position_of(options: &[u16], n: usize, o: usize) -> usize
+    requires { ⌜ (n ≤ 32) × (optionsFrom ≤ length (now options)) ⌝ }
+    requires { ⌜ (startAt (now options) 0 ≤ o) × (o < startAt (now options) n) ⌝ }
+    ensures { λ r. ⌜ (r < n) × ((startAt (now (options .entry)) r ≤ o) × (o < startAt (now (options .entry)) (r + 1))) ⌝ }
 {
     let mut i = 0;
-    while starts[i + 1] <= o {
+    while options::start_at(options, i + 1) <= o {
         i += 1;
     }
     i
@@ -46,16 +48,15 @@ fn step_of(
     direction: &[u16],
     entries: &[usize],
     options: &[u16],
-    starts: &[usize],
     t: Task,
     o: usize,
 ) -> Step
-    requires { ⌜ Choices (now book) (now direction) (now entries) (now options) (now starts) t ⌝ }
+    requires { ⌜ Choices (now book) (now direction) (now entries) (now options) t ⌝ }
     requires { ⌜ o < length (fittingSteps (bookOf (now book)) (now direction)) ⌝ }
     ensures { λ r. ⌜ r ≡ optionAt (bookOf (now (book .entry))) (now (direction .entry)) o ⌝ }
 {
-    let first = position_of(starts, t.n, o) + 1;
-    let entry = options[o];
+    let first = position_of(options, t.n, o) + 1;
+    let entry = options::option_at(options, o);
     let p = derivation::places::phrase_at(book, entries, t.phrases, entry as usize);
     Step {
         first: first as u16,
@@ -83,12 +84,11 @@ fn steps_of(
     direction: &[u16],
     entries: &[usize],
     options: &[u16],
-    starts: &[usize],
     t: Task,
     way: &[usize],
     d: usize,
 ) -> Plain
-    requires { ⌜ Choices (now book) (now direction) (now entries) (now options) (now starts) t ⌝ }
+    requires { ⌜ Choices (now book) (now direction) (now entries) (now options) t ⌝ }
     requires { ⌜ (d ≤ 32) × (d ≤ length (now way)) ⌝ }
     requires { ⌜ ((k : ℕ) → k < d → getD (now way) k 0 < length (fittingSteps (bookOf (now book)) (now direction))) ⌝ }
     ensures { λ r. ⌜ (r .count ≡ d) × (stepsOf r ≡ map (optionAt (bookOf (now (book .entry))) (now (direction .entry))) (take d (now (way .entry)))) ⌝ }
@@ -96,10 +96,7 @@ fn steps_of(
     let mut plain = records::empty();
     let mut k = 0;
     while k < d {
-        plain = records::with_step(
-            plain,
-            step_of(book, direction, entries, options, starts, t, way[k]),
-        );
+        plain = records::with_step(plain, step_of(book, direction, entries, options, t, way[k]));
         k += 1;
     }
     plain
@@ -132,36 +129,40 @@ fn write_words(
     count
 }
 
-// The answer from the place k of the store, which holds the best state: its steps, their words and its score.
+// The best state of a search: its place in the store, and how many states were entered.
+pub struct Best {
+    pub at: usize,
+    pub states: usize,
+}
+
+// The answer from the best state: its steps, their words and its score.
 pub fn trace(
     store: &[i64],
-    k: usize,
-    states: usize,
+    best: Best,
     book: &[i32],
     direction: &[u16],
     entries: &[usize],
     options: &[u16],
-    starts: &[usize],
     t: Task,
     words: &mut [u16],
 ) -> Core
-    requires { ⌜ Choices (now book) (now direction) (now entries) (now options) (now starts) t ⌝ }
-    requires { ⌜ Ended (bookOf (now book)) (now direction) (now store) k ⌝ }
+    requires { ⌜ Choices (now book) (now direction) (now entries) (now options) t ⌝ }
+    requires { ⌜ Ended (bookOf (now book)) (now direction) (now store) (best .at) ⌝ }
     requires { ⌜ 8 * wordCount (now direction) ≤ length (now words) ⌝ }
-    ensures { λ r. ⌜ ((q : Hyp) → Ends (bookOf (now (book .entry))) (now (direction .entry)) (now (store .entry)) k q → Told (bookOf (now (book .entry))) q states (now (words .entry)) (now (words .exit)) r) ⌝ }
+    ensures { λ r. ⌜ ((q : Hyp) → Ends (bookOf (now (book .entry))) (now (direction .entry)) (now (store .entry)) (best .at) q → Told (bookOf (now (book .entry))) q (best .states) (now (words .entry)) (now (words .exit)) r) ⌝ }
 {
     let mut way = [0usize; 32];
-    let d = states::paths::path(store, k, &mut way);
-    let plain = steps_of(book, direction, entries, options, starts, t, &way, d);
+    let d = states::paths::path(store, best.at, &mut way);
+    let plain = steps_of(book, direction, entries, options, t, &way, d);
     let many = write_words(book, entries, t.phrases, plain, words);
-    let x = store::places::place_at(store, k);
+    let x = store::places::place_at(store, best.at);
     Core {
         plain,
         reply: Decoded::Done(Answer {
             score: x.state.score,
             steps: d,
             words: many,
-            states,
+            states: best.states,
         }),
     }
 }

@@ -33,7 +33,7 @@ use Rattle.derivation.specs.declared.Task.{Task}
 use Rattle.proposal.proofs.Long.{passes-short}
 use Rattle.records.specs.Plain.{stepsOf}
 use Rattle.answer.specs.declared.Core.{Core}
-use Rattle.extending.specs.Extend.{Ready}
+use Rattle.extending.specs.Extend.{Searchable}
 use Rattle.answer.specs.Told.{Told}
 use Rattle.decoder.specs.Core.{refusedBy, noAnswer, Concluded, SearchedIf, CoreDecodes}
 
@@ -165,10 +165,10 @@ module _ (loaded : List ℤ) (direction : List ℕ) (width : ℤ) (room : ℕ) (
 
 -- ════ the lists of the search are ready
 
-pub made-ready : {loaded : List ℤ} {direction entries : List ℕ} {grams : List ℤ} {heads links options starts : List ℕ} {t : Task} → Prepared loaded direction grams heads links t
-    → EntriesAt loaded entries (t .phrases) → t .phrases ≤ length entries → OptionsOf (bookOf loaded) direction options starts → length options < 2 ^ 63 → 33 ≤ length starts
-    → Ready loaded direction entries grams heads links options starts t
-made-ready {direction} R at many of small long =
+pub made-searchable : {loaded : List ℤ} {direction entries : List ℕ} {grams : List ℤ} {heads links options : List ℕ} {t : Task} → Prepared loaded direction grams heads links t
+    → EntriesAt loaded entries (t .phrases) → t .phrases ≤ length entries → OptionsOf (bookOf loaded) direction options → length options < 2 ^ 63
+    → Searchable loaded direction entries grams heads links options t
+made-searchable {direction} R at many of small =
     record {
       prepared = R;
       choices = record {
@@ -179,7 +179,6 @@ made-ready {direction} R at many of small long =
         entries-room = many;
         options-of = of;
         options-small = small;
-        starts-room = long;
       };
     }
 

@@ -1,4 +1,5 @@
 // Decoding on plain numbers: questions 11 to 15, the search between them, and the answer.
+use answer::Best;
 use answer::Core;
 use extending::Job;
 use notes::Decoded;
@@ -6,7 +7,7 @@ use notes::Refusal;
 use states::Grown;
 use store::Found;
 ghost use mathlib.Core.Path.{_≡_};
-ghost use Prim.Native.Nat.{_*_, _/_, _≤_, _<_};
+ghost use Prim.Native.Nat.{_+_, _*_, _/_, _≤_, _<_};
 ghost use lib.IntN.{pos};
 ghost use lib.ListN.{length, replicate};
 ghost use Rattle.notes.specs.Book.{bookOf};
@@ -16,9 +17,10 @@ ghost use mathlib.Core.Bool.{_&&_};
 ghost use lib.Dec.{leb};
 ghost use Rattle.book.specs.Entries.{EntriesAt};
 ghost use Rattle.derivation.specs.Prepared.{Prepared};
+ghost use Rattle.options.specs.Options.{optionsFrom};
 ghost use Rattle.states.specs.Ghost.{Starting};
 ghost use Rattle.decoder.specs.Core.{refusedBy, noAnswer, Concluded, Searched, CoreDecodes};
-ghost use Rattle.extending.specs.Extend.{Choices, Ready};
+ghost use Rattle.extending.specs.Extend.{Choices, Searchable};
 
 // A refusal: no steps are written.
 pub fn refused(refusal: Refusal) -> Core
@@ -49,11 +51,10 @@ fn conclude(
     direction: &[u16],
     entries: &[usize],
     options: &[u16],
-    starts: &[usize],
     job: Job,
     words: &mut [u16],
 ) -> Core
-    requires { ⌜ Choices (now book) (now direction) (now entries) (now options) (now starts) (job .task) ⌝ }
+    requires { ⌜ Choices (now book) (now direction) (now entries) (now options) (job .task) ⌝ }
     requires { ⌜ Starting (bookOf (now book)) (now direction) (job .width) (wordCount (now direction)) (now store) count ⌝ }
     requires { ⌜ 8 * wordCount (now direction) ≤ length (now words) ⌝ }
     ensures { λ r. ⌜ Concluded (answer (bookOf (now (book .entry))) (now (direction .entry)) (job .width)) (bookOf (now (book .entry))) (job .width) (length (entered (bookOf (now (book .entry))) (now (direction .entry)) (job .width))) (now (words .entry)) (now (words .exit)) r ⌝ }
@@ -65,15 +66,17 @@ fn conclude(
             refused(no_answer(job.width))
         }
         Found::At(k) => {
+            let best = Best {
+                at: k,
+                states: count,
+            };
             let core = answer::trace(
                 store,
-                k,
-                count,
+                best,
                 book,
                 direction,
                 entries,
                 options,
-                starts,
                 job.task,
                 words,
             );
@@ -94,11 +97,10 @@ fn search_for_best(
     heads: &[u16],
     links: &[u16],
     options: &[u16],
-    starts: &[usize],
     job: Job,
     words: &mut [u16],
 ) -> Core
-    requires { ⌜ Ready (now book) (now direction) (now entries) (now grams) (now heads) (now links) (now options) (now starts) (job .task) ⌝ }
+    requires { ⌜ Searchable (now book) (now direction) (now entries) (now grams) (now heads) (now links) (now options) (job .task) ⌝ }
     requires { ⌜ 8 * wordCount (now direction) ≤ length (now words) ⌝ }
     ensures { λ r. ⌜ Searched (bookOf (now (book .entry))) (now (direction .entry)) (job .width) (length (now (store .entry)) / 8) (now (words .entry)) (now (words .exit)) r ⌝ }
     ensures { λ r. ⌜ now (store .exit) ≡ replicate (length (now (store .entry))) (pos 0) ⌝ }
@@ -113,24 +115,13 @@ fn search_for_best(
         heads,
         links,
         options,
-        starts,
         job,
     ) {
         Grown::Overflow => {
             clearing::clear(store);
             refused(Refusal::StoreTooSmall)
         }
-        Grown::On(count) => conclude(
-            store,
-            count,
-            book,
-            direction,
-            entries,
-            options,
-            starts,
-            job,
-            words,
-        ),
+        Grown::On(count) => conclude(store, count, book, direction, entries, options, job, words),
     }
 }
 
@@ -151,7 +142,6 @@ pub fn decode_with(
     heads: &[u16],
     links: &[u16],
     options: &mut [u16],
-    starts: &mut [usize],
     job: Job,
     room: usize,
     words: &mut [u16],
@@ -159,7 +149,7 @@ pub fn decode_with(
 ) -> Core
     requires { ⌜ Prepared (now book) (now direction) (now grams) (now heads) (now links) (job .task) ⌝ }
     requires { ⌜ EntriesAt (now book) (now entries) (job .task .phrases) × (job .task .phrases ≤ length (now entries)) ⌝ }
-    requires { ⌜ (32 * 4096 ≤ length (now options)) × (33 ≤ length (now starts)) ⌝ }
+    requires { ⌜ optionsFrom + 32 * 4096 ≤ length (now options) ⌝ }
     ensures { λ r. ⌜ CoreDecodes (now (book .entry)) (now (direction .entry)) (job .width) room (now (words .entry)) (now (words .exit)) (now (store .entry)) (now (store .exit)) r ⌝ }
 {
     let t = job.task;
@@ -170,7 +160,7 @@ pub fn decode_with(
     if !has_room(t.n, room, words.len()) {
         return refused(Refusal::StepsOrWordsTooShort);
     }
-    options::list_options(book, entries, t, direction, options, starts);
+    options::list_options(book, entries, t, direction, options);
     search_for_best(
         store,
         book,
@@ -180,7 +170,6 @@ pub fn decode_with(
         heads,
         links,
         options,
-        starts,
         job,
         words,
     )

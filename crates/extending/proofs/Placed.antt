@@ -32,10 +32,19 @@ use Rattle.states.specs.Shows.{Fine}
 use Rattle.states.specs.Ghost.{optionAt, NextPlace}
 use Rattle.store.specs.declared.Place.{Place}
 use Rattle.extending.specs.Extend.{nextPlace, CanPlace}
+use Rattle.extending.specs.declared.Turn.{Turn}
 
-module _ (loaded : List ℤ) (direction : List ℕ) (grams : List ℤ) (heads links : List ℕ) (t : Task) (R : Prepared loaded direction grams heads links t)
-    (p : Phrase) (k first : ℕ) (of : PhraseOf loaded (entryAt (bookOf loaded) k) p)
-    (x : Place) (fine : Fine (wordCount direction) (x .state)) where
+module _ {loaded : List ℤ} {direction : List ℕ} {grams : List ℤ} {heads links : List ℕ} {t : Task} (R : Prepared loaded direction grams heads links t)
+    (turn : Turn) {p : Phrase} (of : PhraseOf loaded (entryAt (bookOf loaded) (turn .entry)) p) (fine : Fine (wordCount direction) (turn .spot .source .place .state)) where
+  abbrev x : Place
+  x = turn .spot .source .place
+
+  abbrev first : ℕ
+  first = turn .spot .first
+
+  abbrev k : ℕ
+  k = turn .entry
+
   abbrev book : Book
   book = bookOf loaded
 
@@ -60,7 +69,7 @@ module _ (loaded : List ℤ) (direction : List ℕ) (grams : List ℤ) (heads li
     unfolding keyOf
     small = mask-fits step n (x .state .covered) (facts .first-from) (facts .first-to) last-to (fine .covered-in) free
 
-    pub can-place : jumpFrom (x .state .r) first ≤ t .limit → Within scoreBound (x .state .score) → x .size ≤ n → CanPlace t p first x
+    pub can-place : jumpFrom (x .state .r) first ≤ t .limit → Within scoreBound (x .state .score) → x .size ≤ n → CanPlace t p (turn .spot)
     can-place near within size =
         let N = fine .few in
         let l = loaded-ranged loaded (R .passed) in
@@ -108,10 +117,10 @@ module _ (loaded : List ℤ) (direction : List ℕ) (grams : List ℤ) (heads li
     unfolding nextState
     after-fine = record { few = fine .few; covered-in = small; r-in = (let l = last-to in let N = fine .few in omega arith) }
 
-    pub next-place : (j o : ℕ) → optionAt book direction o ≡ step → x .size ≡ wordsCovered (keyOf n (x .state))
-        → NextPlace book direction x j o (nextPlace grams t p (entryAt book k) first x j o)
+    pub next-place : optionAt book direction (turn .option) ≡ step → x .size ≡ wordsCovered (keyOf n (x .state))
+        → NextPlace book direction x (turn .spot .source .at) (turn .option) (nextPlace grams t p (entryAt book k) turn)
     unfolding nextPlace
-    next-place j o is size =
+    next-place is size =
         let key : keyOf n (nextState grams t p (entryAt book k) first (first + p .long - 1) (x .state)) ≡ nextKey book (keyOf n (x .state)) step = ap (keyOf n) state-is ∙ key-is in
         record {
           key-is = key ∙ ap (nextKey book (keyOf n (x .state))) (sym is);

@@ -15,7 +15,6 @@ use Rattle.laws.proofs.Bounds.{within-mono}
 use Rattle.laws.proofs.Lists.{getD-mem, climbs}
 use Rattle.coverage.specs.Runs.{freeRun, RunsFrom}
 use Rattle.coverage.proofs.Laws.{free-run}
-use Rattle.search_theory.specs.Search.{run}
 use Rattle.notes.specs.Book.{Book, bookOf}
 use Rattle.notes.specs.Direction.{wordCount}
 use Rattle.notes.specs.Derivation.{noStep, entryAt, fits, jump}
@@ -35,17 +34,39 @@ use Rattle.store.specs.declared.Added.{Added}
 use Rattle.store.specs.declared.Added.the-variants.{Replaced, Kept, Appended, Full}
 use Rattle.states.specs.declared.Grown.{Grown}
 use Rattle.states.proofs.Ghost.{skipped, went, chosen-score, next-storable}
-use Rattle.extending.specs.Extend.{nextPlace, CanPlace, grownBy, Grows, Turn, Turns, Ready, Spot}
+use Rattle.extending.specs.Extend.{nextPlace, CanPlace, grownBy, Grows, Searchable, SpotOf, TurnOf}
 use Rattle.extending.specs.declared.Job.{Job}
+use Rattle.extending.specs.declared.Source.{Source}
+use Rattle.extending.specs.declared.Spot.{Spot}
+use Rattle.extending.specs.declared.Turn.{Turn}
+use Rattle.options.specs.Options.{optionsFrom, startAt, optionIn}
 use Rattle.extending.proofs.Placed.{can-place, next-place}
 
-module _ (loaded : List ℤ) (direction entries : List ℕ) (grams : List ℤ) (heads links : List ℕ) (job : Job) (x : Place) (j first run o k : ℕ)
-    (T : Turn loaded direction entries grams heads links job x j first run o k) (p : Phrase) (of : PhraseOf loaded (entryAt (bookOf loaded) k) p) where
+module _ {loaded : List ℤ} {direction entries : List ℕ} {grams : List ℤ} {heads links : List ℕ} {job : Job} {turn : Turn}
+    (T : TurnOf loaded direction entries grams heads links job turn) {p : Phrase} (of : PhraseOf loaded (entryAt (bookOf loaded) (turn .entry)) p) where
   abbrev book : Book
   book = bookOf loaded
 
   abbrev n : ℕ
   n = wordCount direction
+
+  abbrev x : Place
+  x = turn .spot .source .place
+
+  abbrev j : ℕ
+  j = turn .spot .source .at
+
+  abbrev first : ℕ
+  first = turn .spot .first
+
+  abbrev run : ℕ
+  run = turn .spot .run
+
+  abbrev o : ℕ
+  o = turn .option
+
+  abbrev k : ℕ
+  k = turn .entry
 
   abbrev step : Step
   step = stepAt book first k
@@ -65,7 +86,7 @@ module _ (loaded : List ℤ) (direction entries : List ℕ) (grams : List ℤ) (
       let s = fits-size book direction step facts in
       let m = of .source-at .many-are in
       let z : step .last + 1 - step .first ≡ p .long = omega arith in
-      free-run step (bitsOf n (x .state .covered)) (facts .first-from) (facts .first-to) (omega arith) ∙ rw (z, T .run-is)
+      free-run step (bitsOf n (x .state .covered)) (facts .first-from) (facts .first-to) (omega arith) ∙ rw (z, T .spot-of .run-is)
 
   near-is : leb (jump (keyOf n (x .state) .r) step) (book .limit) ≡ true
   unfolding keyOf jump
@@ -77,31 +98,31 @@ module _ (loaded : List ℤ) (direction entries : List ℕ) (grams : List ℤ) (
 
   -- the run is too short: nothing is added
   pub turn-skips : {st : List ℤ} {count : ℕ} → Growing book direction (job .width) (x .size) j o st count → run < p .long → Growing book direction (job .width) (x .size) j (o + 1) st count
-  turn-skips G h = skipped book direction (job .width) (T .chosen) (T .option-in) G (may-is false (lt-leb (p .long) run h))
+  turn-skips G h = skipped book direction (job .width) (T .spot-of .chosen) (T .option-in) G (may-is false (lt-leb (p .long) run h))
 
   module _ (h : p .long ≤ run) where
     free : isFree step 1 (keyOf n (x .state) .covered) ≡ true
     free = free-is ∙ le-leb (p .long) run h
 
     size-to : x .size ≤ n
-    size-to = let l = T .chosen .low in let e = T .chosen .sized in omega arith
+    size-to = let l = T .spot-of .chosen .low in let e = T .spot-of .chosen .sized in omega arith
 
-    pub turn-can : CanPlace (job .task) p first x
+    pub turn-can : CanPlace (job .task) p (turn .spot)
     turn-can =
-        let N = T .chosen .shown .fine .few in
+        let N = T .spot-of .chosen .shown .fine .few in
         let s = size-to in
-        can-place loaded direction grams heads links (job .task) (T .prepared) p k first of x (T .chosen .shown .fine) fit free (T .near)
-        (within-mono (omega arith) (chosen-score book direction (job .width) (loaded-ranged loaded (T .prepared .passed)) (T .chosen))) s
+        can-place (T .prepared) turn of (T .spot-of .chosen .shown .fine) fit free (T .near)
+        (within-mono (omega arith) (chosen-score book direction (job .width) (loaded-ranged loaded (T .prepared .passed)) (T .spot-of .chosen))) s
 
-    pub turn-next : NextPlace book direction x j o (nextPlace grams (job .task) p (entryAt book k) first x j o)
-    turn-next = next-place loaded direction grams heads links (job .task) (T .prepared) p k first of x (T .chosen .shown .fine) fit free j o (T .option-is) (T .chosen .shown .size-is)
+    pub turn-next : NextPlace book direction x j o (nextPlace grams (job .task) p (entryAt book k) turn)
+    turn-next = next-place (T .prepared) turn of (T .spot-of .chosen .shown .fine) fit free (T .option-is) (T .spot-of .chosen .shown .size-is)
 
     -- each answer of add_place goes one option further
-    pub turn-grows : (y : Place) → y ≡ nextPlace grams (job .task) p (entryAt book k) first x j o → {st st′ : List ℤ} {count : ℕ} → Growing book direction (job .width) (x .size) j o st count
+    pub turn-grows : (y : Place) → y ≡ nextPlace grams (job .task) p (entryAt book k) turn → {st st′ : List ℤ} {count : ℕ} → Growing book direction (job .width) (x .size) j o st count
         → (r : Grown) → Grows st st′ count y r → Grew book direction (job .width) (x .size) j (o + 1) st′ r
     turn-grows y e {st} {st′} {count} G r g =
         rw (g .is) (by (g .answer)
-        (went book direction (job .width) (T .chosen) (T .option-in) G (may-is true (le-leb (p .long) run h)) (subst (NextPlace book direction x j o) (sym e) turn-next) st′ (g .answer) (g .added) (g .index)))
+        (went book direction (job .width) (T .spot-of .chosen) (T .option-in) G (may-is true (le-leb (p .long) run h)) (subst (NextPlace book direction x j o) (sym e) turn-next) st′ (g .answer) (g .added) (g .index)))
       where
         by : (a : Added) → After book direction (job .width) (x .size) j (o + 1) st′ count a → Grew book direction (job .width) (x .size) j (o + 1) st′ (grownBy count a)
         by Replaced u = u
@@ -109,30 +130,8 @@ module _ (loaded : List ℤ) (direction entries : List ℕ) (grams : List ℤ) (
         by Appended u = u
         by Full u = u
 
-    pub turn-storable : (y : Place) → y ≡ nextPlace grams (job .task) p (entryAt book k) first x j o → Storable y
-    turn-storable y e = subst Storable (sym e) (next-storable book direction (job .width) turn-next (T .place-small) (T .option-small))
-
--- one of several options at a position
-pub turn-of : {loaded : List ℤ} {direction entries : List ℕ} {grams : List ℤ} {heads links options : List ℕ} {job : Job} {x : Place} {j first run from to : ℕ}
-    → Turns loaded direction entries grams heads links options job x j first run from to → (o : ℕ) → from ≤ o → o < to
-    → Turn loaded direction entries grams heads links job x j first run o (getD options o 0)
-turn-of T o a b =
-    record {
-      prepared = T .prepared;
-      entries-at = T .entries-at;
-      entries-room = T .entries-room;
-      chosen = T .chosen;
-      place-small = T .place-small;
-      option-in = (let h = T .options-in in omega arith);
-      option-small = (let h = T .options-small in omega arith);
-      option-is = T .option-is o a b;
-      entry-from = T .entry-in o a b .0;
-      entry-to = T .entry-in o a b .1;
-      first-from = T .first-from;
-      first-to = T .first-to;
-      run-is = T .run-is;
-      near = T .near;
-    }
+    pub turn-storable : (y : Place) → y ≡ nextPlace grams (job .task) p (entryAt book k) turn → Storable y
+    turn-storable y e = subst Storable (sym e) (next-storable book direction (job .width) turn-next (T .spot-of .place-small) (T .option-small))
 
 -- several options that may not extend the state
 module _ (bk : Book) (direction : List ℕ) (width : ℤ) (i j : ℕ) (x : Place) (A : Chosen bk direction width i j x) (from : ℕ) (st : List ℤ) (count : ℕ) where
@@ -149,114 +148,138 @@ module _ (bk : Book) (direction : List ℕ) (width : ℤ) (i j : ℕ) (x : Place
       (skipped bk direction width A (omega arith) F (never (from + many) (omega arith) (omega arith)))
 
 -- the options of a position, from where they begin to where the next position's begin
-module _ {loaded : List ℤ} {direction entries : List ℕ} {grams : List ℤ} {heads links options starts : List ℕ} {job : Job} {x : Place} {j i run : ℕ}
-    (R : Ready loaded direction entries grams heads links options starts (job .task)) (S : Spot loaded direction job x j i run) where
+module _ {loaded : List ℤ} {direction entries : List ℕ} {grams : List ℤ} {heads links options : List ℕ} {job : Job} {spot : Spot}
+    (R : Searchable loaded direction entries grams heads links options (job .task)) (S : SpotOf loaded direction job spot) where
   abbrev book′ : Book
   book′ = bookOf loaded
 
   abbrev n′ : ℕ
   n′ = wordCount direction
 
+  abbrev x′ : Place
+  x′ = spot .source .place
+
+  abbrev j′ : ℕ
+  j′ = spot .source .at
+
+  abbrev first′ : ℕ
+  first′ = spot .first
+
   abbrev from : ℕ
-  from = getD starts i 0
+  from = startAt options (first′ - 1)
 
   abbrev to : ℕ
-  to = getD starts (i + 1) 0
+  to = startAt options first′
 
-  to-end : to ≤ getD starts n′ 0
-  to-end = let h = S .inside in
-      let z : i + 1 + (n′ - (i + 1)) ≡ n′ = omega arith in
-      rw z at (climbs (λ k. getD starts k 0) (i + 1) (n′ - (i + 1)) (λ k a b. rw add-one at (R .choices .options-of .rising k (omega arith))))
+  before-is : first′ - 1 + 1 ≡ first′
+  before-is = let h = S .first-from in omega arith
 
-  step-fits : (o : ℕ) → from ≤ o → o < to → fits book′ direction (stepAt book′ (i + 1) (getD options o 0)) ≡ true
+  before-in : first′ - 1 < n′
+  before-in = let h = S .first-from in let l = S .first-to in omega arith
+
+  pub spot-rises : from ≤ to
+  spot-rises = rw before-is at (R .choices .options-of .rising (first′ - 1) before-in)
+
+  to-end : to ≤ startAt options n′
+  to-end = let h = S .first-to in
+      let z : first′ + (n′ - first′) ≡ n′ = omega arith in
+      rw z at (climbs (startAt options) first′ (n′ - first′) (λ k a b. rw add-one at (R .choices .options-of .rising k (omega arith))))
+
+  -- the starts and the options that are read stand in the list
+  pub spot-starts : (first′ ≤ 32) × (optionsFrom ≤ length options)
+  spot-starts = let h = S .first-to in let f = R .choices .few in let r = R .choices .options-of .room in (omega arith, omega arith)
+
+  pub spot-option : (o : ℕ) → o < to → optionsFrom + o < length options
+  spot-option o h = let e = to-end in let r = R .choices .options-of .room in omega arith
+
+  each : (o : ℕ) → from ≤ o → o < to → optionAt book′ direction o ≡ stepAt book′ first′ (optionIn options o)
+  each o a b = rw before-is at (R .choices .options-of .each (first′ - 1) o before-in a (rw before-is b))
+
+  step-fits : (o : ℕ) → from ≤ o → o < to → fits book′ direction (stepAt book′ first′ (optionIn options o)) ≡ true
   step-fits o a b =
       let l = R .choices .options-of .ends in
       let e = to-end in
-      listed-fits book′ direction _
-      (subst (λ (s : Step). List·Memᴰ s (fittingSteps book′ direction)) (R .choices .options-of .each i o (S .inside) a b) (getD-mem (fittingSteps book′ direction) o noStep (omega arith)))
+      listed-fits book′ direction _ (subst (λ (s : Step). List·Memᴰ s (fittingSteps book′ direction)) (each o a b) (getD-mem (fittingSteps book′ direction) o noStep (omega arith)))
 
-  pub spot-turns : jumpFrom (x .state .r) (i + 1) ≤ job .task .limit
-      → Turns loaded direction entries grams heads links options job x j (i + 1) run from to
-  spot-turns near =
+  pub spot-turn : jumpFrom (x′ .state .r) first′ ≤ job .task .limit → (o : ℕ) → from ≤ o → o < to
+      → TurnOf loaded direction entries grams heads links job (record { spot = spot; option = o; entry = optionIn options o })
+  spot-turn near o a b =
       let e = to-end in
-      let r = R .choices .options-of .room in
       let l = R .choices .options-of .ends in
       let m = R .prepared .phrases-are in
+      let q = R .choices .options-of .entries-in o (omega arith) in
       record {
         prepared = R .prepared;
         entries-at = R .choices .entries-at;
         entries-room = R .choices .entries-room;
-        chosen = S .chosen;
-        place-small = S .place-small;
-        rising = R .choices .options-of .rising i (S .inside);
-        options-in = omega arith;
-        options-room = omega arith;
-        options-small = (let s = R .choices .options-small in omega arith);
-        option-is = λ o a b. R .choices .options-of .each i o (S .inside) a b;
-        entry-in = λ o a b. let q = R .choices .options-of .entries-in o (omega arith) in (q .0, (let z = q .1 in omega arith));
-        first-from = omega arith;
-        first-to = (let h = S .inside in omega arith);
-        run-is = (let z : i + 1 - 1 ≡ i = omega arith in rw z (S .run-is));
+        spot-of = S;
         near = near;
+        option-in = omega arith;
+        option-small = (let s = R .choices .options-small in let r = R .choices .options-of .room in omega arith);
+        option-is = each o a b;
+        entry-from = q .0;
+        entry-to = (let z = q .1 in omega arith);
       }
 
   -- none of them may extend the state
-  spot-skips : ((o : ℕ) → from ≤ o → o < to → mayExtend book′ direction (keyOf n′ (x .state)) (stepAt book′ (i + 1) (getD options o 0)) ≡ false)
-      → {st : List ℤ} {count : ℕ} → Growing book′ direction (job .width) (x .size) j from st count → Growing book′ direction (job .width) (x .size) j to st count
+  spot-skips : ((o : ℕ) → from ≤ o → o < to → mayExtend book′ direction (keyOf n′ (x′ .state)) (stepAt book′ first′ (optionIn options o)) ≡ false)
+      → {st : List ℤ} {count : ℕ} → Growing book′ direction (job .width) (x′ .size) j′ from st count → Growing book′ direction (job .width) (x′ .size) j′ to st count
   spot-skips never {st} {count} G =
       let e = to-end in
       let l = R .choices .options-of .ends in
-      let r : from ≤ to = R .choices .options-of .rising i (S .inside) in
+      let r : from ≤ to = spot-rises in
       let z : from + (to - from) ≡ to = omega arith in
-      subst (λ (o : ℕ). Growing book′ direction (job .width) (x .size) j o st count) z
-      (skip-all book′ direction (job .width) (x .size) j x (S .chosen) from st count (to - from) (omega arith)
-      (λ o a b. ap (mayExtend book′ direction (keyOf n′ (x .state))) (R .choices .options-of .each i o (S .inside) a (omega arith)) ∙ never o a (omega arith)) G)
+      subst (λ (o : ℕ). Growing book′ direction (job .width) (x′ .size) j′ o st count) z
+      (skip-all book′ direction (job .width) (x′ .size) j′ x′ (S .chosen) from st count (to - from) (omega arith)
+      (λ o a b. ap (mayExtend book′ direction (keyOf n′ (x′ .state))) (each o a (omega arith)) ∙ never o a (omega arith)) G)
 
   -- the position is out of reach
-  pub far-skips : job .task .limit < jumpFrom (x .state .r) (i + 1)
-      → {st : List ℤ} {count : ℕ} → Growing book′ direction (job .width) (x .size) j from st count → Growing book′ direction (job .width) (x .size) j to st count
+  pub far-skips : job .task .limit < jumpFrom (x′ .state .r) first′
+      → {st : List ℤ} {count : ℕ} → Growing book′ direction (job .width) (x′ .size) j′ from st count → Growing book′ direction (job .width) (x′ .size) j′ to st count
   unfolding mayExtend keyOf jump
   far-skips far =
       spot-skips (λ o a b.
-      let q : leb (jumpFrom (x .state .r) (i + 1)) (book′ .limit) ≡ false = lt-leb (jumpFrom (x .state .r) (i + 1)) (book′ .limit) (let e = R .prepared .limit-is in omega arith) in
+      let q : leb (jumpFrom (x′ .state .r) first′) (book′ .limit) ≡ false = lt-leb (jumpFrom (x′ .state .r) first′) (book′ .limit) (let e = R .prepared .limit-is in omega arith) in
       rw (q, and-false) refl)
 
   -- the position is covered
-  pub covered-skips : run ≡ 0
-      → {st : List ℤ} {count : ℕ} → Growing book′ direction (job .width) (x .size) j from st count → Growing book′ direction (job .width) (x .size) j to st count
+  pub covered-skips : spot .run ≡ 0
+      → {st : List ℤ} {count : ℕ} → Growing book′ direction (job .width) (x′ .size) j′ from st count → Growing book′ direction (job .width) (x′ .size) j′ to st count
   unfolding mayExtend keyOf wordCount
   covered-skips none = spot-skips (λ o a b. by o (step-fits o a b))
     where
-      by : (o : ℕ) → fits book′ direction (stepAt book′ (i + 1) (getD options o 0)) ≡ true
-          → mayExtend book′ direction (keyOf n′ (x .state)) (stepAt book′ (i + 1) (getD options o 0)) ≡ false
+      by : (o : ℕ) → fits book′ direction (stepAt book′ first′ (optionIn options o)) ≡ true
+          → mayExtend book′ direction (keyOf n′ (x′ .state)) (stepAt book′ first′ (optionIn options o)) ≡ false
       by o fit =
-          let step : Step = stepAt book′ (i + 1) (getD options o 0) in
+          let step : Step = stepAt book′ first′ (optionIn options o) in
           let F = fits-facts book′ direction step fit in
           let l = F .last-to in
-          let b : length (bitsOf n′ (x .state .covered)) ≡ n′ = bits-length n′ (x .state .covered) in
-          let z : i + 1 - 1 ≡ i = omega arith in
-          let q : isFree step 1 (bitsOf n′ (x .state .covered)) ≡ false =
-          free-run step (bitsOf n′ (x .state .covered)) (F .first-from) (F .first-to) (omega arith)
-          ∙ lt-leb (step .last + 1 - step .first) _ (let e : freeRun (drop (i + 1 - 1) (bitsOf n′ (x .state .covered))) ≡ 0 = rw z (sym (S .run-is) ∙ none) in let f = F .first-to in omega arith) in
+          let b : length (bitsOf n′ (x′ .state .covered)) ≡ n′ = bits-length n′ (x′ .state .covered) in
+          let q : isFree step 1 (bitsOf n′ (x′ .state .covered)) ≡ false =
+          free-run step (bitsOf n′ (x′ .state .covered)) (F .first-from) (F .first-to) (omega arith)
+          ∙ lt-leb (step .last + 1 - step .first) _ (let e : freeRun (drop (first′ - 1) (bitsOf n′ (x′ .state .covered))) ≡ 0 = (sym (S .run-is) ∙ none) in let f = F .first-to in omega arith) in
           rw (q, and-false) refl
 
 -- a position, with the run that was read for it
-module _ {loaded : List ℤ} {direction entries : List ℕ} {grams : List ℤ} {heads links options starts : List ℕ} {job : Job} {x : Place} {j : ℕ}
-    (R : Ready loaded direction entries grams heads links options starts (job .task)) where
-  pub spot-of : Chosen (bookOf loaded) direction (job .width) (x .size) j x → j < 2 ^ 63
-      → (runs : List ℕ) → RunsFrom runs (job .task .n) (x .state .covered) 0 → (i : ℕ) → i < job .task .n → Spot loaded direction job x j i (getD runs i 0)
-  spot-of A small runs F i h =
+module _ {loaded : List ℤ} {direction entries : List ℕ} {grams : List ℤ} {heads links options : List ℕ} {job : Job} {source : Source}
+    (R : Searchable loaded direction entries grams heads links options (job .task)) where
+  pub spot-at : Chosen (bookOf loaded) direction (job .width) (source .place .size) (source .at) (source .place) → source .at < 2 ^ 63
+      → (runs : List ℕ) → RunsFrom runs (job .task .n) (source .place .state .covered) 0 → (i : ℕ) → i < job .task .n
+      → SpotOf loaded direction job (record { source = source; first = i + 1; run = getD runs i 0 })
+  spot-at A small runs F i h =
       let e = R .prepared .n-is in
+      let z : i + 1 - 1 ≡ i = omega arith in
       record {
         chosen = A;
         place-small = small;
-        inside = omega arith;
-        run-is = rw e at (F .run-at i (omega arith) (omega arith));
+        first-from = omega arith;
+        first-to = omega arith;
+        run-is = rw z (rw e at (F .run-at i (omega arith) (omega arith)));
       }
 
 -- no option is done before the first position (`begins`), and all of them after the last
-pub all-done : {loaded : List ℤ} {direction entries : List ℕ} {grams : List ℤ} {heads links options starts : List ℕ} {t : Task}
-    → Ready loaded direction entries grams heads links options starts t → (i : ℕ) → i ≤ t .n → t .n ≤ i → length (fittingSteps (bookOf loaded) direction) ≤ getD starts i 0
+pub all-done : {loaded : List ℤ} {direction entries : List ℕ} {grams : List ℤ} {heads links options : List ℕ} {t : Task}
+    → Searchable loaded direction entries grams heads links options t → (i : ℕ) → i ≤ t .n → t .n ≤ i → length (fittingSteps (bookOf loaded) direction) ≤ startAt options i
 all-done {direction} R i a b =
     let n = R .prepared .n-is in
     let e : i ≡ wordCount direction = omega arith in

@@ -5,13 +5,14 @@ use states::Grown;
 use store::Added;
 use store::Place;
 ghost use mathlib.Core.Path.{_≡_};
-ghost use Prim.Native.Nat.{_+_, _^_, _<_};
-ghost use lib.ListN.{getD};
+ghost use Prim.Native.Nat.{_+_, _-_, _^_, _≤_, _<_};
 ghost use Rattle.notes.specs.Book.{Entry, bookOf};
 ghost use Rattle.derivation.specs.Model.{Model, PhraseOf, Phrased};
+ghost use Rattle.derivation.specs.Next.{jumpFrom};
+ghost use Rattle.options.specs.Options.{startAt};
 ghost use Rattle.store.specs.Store.{Indexed, Storable};
 ghost use Rattle.states.specs.Ghost.{Chosen, Growing, Grew, Levelled};
-ghost use Rattle.extending.specs.Extend.{Grows, nextPlace, CanPlace, Turn, Turns, Ready, Spot};
+ghost use Rattle.extending.specs.Extend.{Grows, nextPlace, CanPlace, Searchable, SpotOf, TurnOf};
 
 // What is searched: the numbers of the book and the direction, and the beam's width (-1: pruning off).
 pub struct Job {
@@ -19,7 +20,27 @@ pub struct Job {
     pub width: i64,
 }
 
-// The place that entry p at `first` leads to from the place j, which holds x.
+// The state that is extended: what its place holds, and the place's number.
+pub struct Source {
+    pub place: store::Place,
+    pub at: usize,
+}
+
+// Where it is extended: at the position `first`, from which on `run` positions are free.
+pub struct Spot {
+    pub source: Source,
+    pub first: usize,
+    pub run: usize,
+}
+
+// By what it is extended there: by the option with that number, which is that entry.
+pub struct Turn {
+    pub spot: Spot,
+    pub option: usize,
+    pub entry: usize,
+}
+
+// The place that the entry p leads to in this turn.
 fn next_place(
     book: &[i32],
     grams: &[i32],
@@ -27,23 +48,32 @@ fn next_place(
     links: &[u16],
     t: Task,
     p: Phrase,
-    first: usize,
-    x: Place,
-    j: usize,
-    option: usize,
+    turn: Turn,
 ) -> Place
     requires { ⌜ Model (now grams) (now heads) (now links) t ⌝ }
     requires { ⌜ Phrased (now book) p ⌝ }
-    requires { ⌜ CanPlace t p first x ⌝ }
-    ensures { λ y. ⌜ ((e : Entry) → PhraseOf (now (book .entry)) e p → y ≡ nextPlace (now (grams .entry)) t p e first x j option) ⌝ }
+    requires { ⌜ CanPlace t p (turn .spot) ⌝ }
+    ensures { λ y. ⌜ ((e : Entry) → PhraseOf (now (book .entry)) e p → y ≡ nextPlace (now (grams .entry)) t p e turn) ⌝ }
 {
-    let last = first + p.long - 1;
-    let state = derivation::step::next_state(book, grams, heads, links, t, p, first, last, x.state);
+    let spot = turn.spot;
+    let x = spot.source.place;
+    let last = spot.first + p.long - 1;
+    let state = derivation::step::next_state(
+        book,
+        grams,
+        heads,
+        links,
+        t,
+        p,
+        spot.first,
+        last,
+        x.state,
+    );
     Place {
         state,
         size: x.size + p.long,
-        parent: j,
-        option,
+        parent: spot.source.at,
+        option: turn.option,
     }
 }
 
@@ -61,8 +91,8 @@ fn grow(store: &mut [i64], count: usize, y: Place) -> Grown
     }
 }
 
-// The state of the place j, which is x, is extended by the option o, entry k at the position `first`, where it may be: `run` positions
-// are free from there on. How many states there are then, or the store is too small. (`direction` is for the contract.)
+// The state is extended by the option of this turn, if the free positions are enough for it. How many states there are then, or
+// the store is too small. (`direction` is for the contract.)
 fn extend_option(
     store: &mut [i64],
     count: usize,
@@ -73,27 +103,22 @@ fn extend_option(
     heads: &[u16],
     links: &[u16],
     job: Job,
-    x: Place,
-    j: usize,
-    first: usize,
-    run: usize,
-    o: usize,
-    k: usize,
+    turn: Turn,
 ) -> Grown
-    requires { ⌜ Turn (now book) (now direction) (now entries) (now grams) (now heads) (now links) job x j first run o k ⌝ }
-    requires { ⌜ Growing (bookOf (now book)) (now direction) (job .width) (x .size) j o (now store) count ⌝ }
-    ensures { λ r. ⌜ Grew (bookOf (now (book .entry))) (now (direction .entry)) (job .width) (x .size) j (o + 1) (now (store .exit)) r ⌝ }
+    requires { ⌜ TurnOf (now book) (now direction) (now entries) (now grams) (now heads) (now links) job turn ⌝ }
+    requires { ⌜ Growing (bookOf (now book)) (now direction) (job .width) (turn .spot .source .place .size) (turn .spot .source .at) (turn .option) (now store) count ⌝ }
+    ensures { λ r. ⌜ Grew (bookOf (now (book .entry))) (now (direction .entry)) (job .width) (turn .spot .source .place .size) (turn .spot .source .at) (turn .option + 1) (now (store .exit)) r ⌝ }
 {
     let t = job.task;
-    let p = derivation::places::phrase_at(book, entries, t.phrases, k);
-    if run < p.long {
+    let p = derivation::places::phrase_at(book, entries, t.phrases, turn.entry);
+    if turn.spot.run < p.long {
         return Grown::On(count);
     }
-    let y = next_place(book, grams, heads, links, t, p, first, x, j, o);
+    let y = next_place(book, grams, heads, links, t, p, turn);
     grow(store, count, y)
 }
 
-// It is extended by the options from `from` to `to`, which all stand at the position `first`.
+// It is extended by every option of a position that is in reach.
 fn extend_at(
     store: &mut [i64],
     count: usize,
@@ -105,21 +130,23 @@ fn extend_at(
     links: &[u16],
     options: &[u16],
     job: Job,
-    x: Place,
-    j: usize,
-    first: usize,
-    run: usize,
-    from: usize,
-    to: usize,
+    spot: Spot,
 ) -> Grown
-    requires { ⌜ Turns (now book) (now direction) (now entries) (now grams) (now heads) (now links) (now options) job x j first run from to ⌝ }
-    requires { ⌜ Growing (bookOf (now book)) (now direction) (job .width) (x .size) j from (now store) count ⌝ }
-    ensures { λ r. ⌜ Grew (bookOf (now (book .entry))) (now (direction .entry)) (job .width) (x .size) j to (now (store .exit)) r ⌝ }
+    requires { ⌜ Searchable (now book) (now direction) (now entries) (now grams) (now heads) (now links) (now options) (job .task) ⌝ }
+    requires { ⌜ SpotOf (now book) (now direction) job spot × (jumpFrom (spot .source .place .state .r) (spot .first) ≤ job .task .limit) ⌝ }
+    requires { ⌜ Growing (bookOf (now book)) (now direction) (job .width) (spot .source .place .size) (spot .source .at) (startAt (now options) (spot .first - 1)) (now store) count ⌝ }
+    ensures { λ r. ⌜ Grew (bookOf (now (book .entry))) (now (direction .entry)) (job .width) (spot .source .place .size) (spot .source .at) (startAt (now (options .entry)) (spot .first)) (now (store .exit)) r ⌝ }
 {
+    let to = options::start_at(options, spot.first);
     let mut c = count;
-    let mut o = from;
+    let mut o = options::start_at(options, spot.first - 1);
     while o < to {
-        let k = options[o] as usize;
+        let entry = options::option_at(options, o) as usize;
+        let turn = Turn {
+            spot,
+            option: o,
+            entry,
+        };
         let Grown::On(more) = extend_option(
             store,
             c,
@@ -130,12 +157,7 @@ fn extend_at(
             heads,
             links,
             job,
-            x,
-            j,
-            first,
-            run,
-            o,
-            k,
+            turn,
         ) else {
             return Grown::Overflow;
         };
@@ -145,7 +167,7 @@ fn extend_at(
     Grown::On(c)
 }
 
-// It is extended by the options of the position i + 1, where `run` positions are free: none where that is out of reach, or covered.
+// It is extended by the options of a position: by none where that is covered, or out of reach.
 fn extend_from(
     store: &mut [i64],
     count: usize,
@@ -156,23 +178,18 @@ fn extend_from(
     heads: &[u16],
     links: &[u16],
     options: &[u16],
-    starts: &[usize],
     job: Job,
-    x: Place,
-    j: usize,
-    i: usize,
-    run: usize,
+    spot: Spot,
 ) -> Grown
-    requires { ⌜ Ready (now book) (now direction) (now entries) (now grams) (now heads) (now links) (now options) (now starts) (job .task) ⌝ }
-    requires { ⌜ Spot (now book) (now direction) job x j i run ⌝ }
-    requires { ⌜ Growing (bookOf (now book)) (now direction) (job .width) (x .size) j (getD (now starts) i 0) (now store) count ⌝ }
-    ensures { λ r. ⌜ Grew (bookOf (now (book .entry))) (now (direction .entry)) (job .width) (x .size) j (getD (now (starts .entry)) (i + 1) 0) (now (store .exit)) r ⌝ }
+    requires { ⌜ Searchable (now book) (now direction) (now entries) (now grams) (now heads) (now links) (now options) (job .task) ⌝ }
+    requires { ⌜ SpotOf (now book) (now direction) job spot ⌝ }
+    requires { ⌜ Growing (bookOf (now book)) (now direction) (job .width) (spot .source .place .size) (spot .source .at) (startAt (now options) (spot .first - 1)) (now store) count ⌝ }
+    ensures { λ r. ⌜ Grew (bookOf (now (book .entry))) (now (direction .entry)) (job .width) (spot .source .place .size) (spot .source .at) (startAt (now (options .entry)) (spot .first)) (now (store .exit)) r ⌝ }
 {
-    let t = job.task;
-    if run == 0 {
+    if spot.run == 0 {
         return Grown::On(count);
     }
-    if t.limit < derivation::step::jump(x.state.r as usize, i + 1) {
+    if job.task.limit < derivation::step::jump(spot.source.place.state.r as usize, spot.first) {
         return Grown::On(count);
     }
     extend_at(
@@ -186,12 +203,7 @@ fn extend_from(
         links,
         options,
         job,
-        x,
-        j,
-        i + 1,
-        run,
-        starts[i],
-        starts[i + 1],
+        spot,
     )
 }
 
@@ -206,22 +218,24 @@ pub fn extend_all(
     heads: &[u16],
     links: &[u16],
     options: &[u16],
-    starts: &[usize],
     job: Job,
-    x: Place,
-    j: usize,
+    source: Source,
 ) -> Grown
-    requires { ⌜ Ready (now book) (now direction) (now entries) (now grams) (now heads) (now links) (now options) (now starts) (job .task) ⌝ }
-    requires { ⌜ Chosen (bookOf (now book)) (now direction) (job .width) (x .size) j x × (j < 2 ^ 63) ⌝ }
-    requires { ⌜ Growing (bookOf (now book)) (now direction) (job .width) (x .size) j 0 (now store) count ⌝ }
-    ensures { λ r. ⌜ Levelled (bookOf (now (book .entry))) (now (direction .entry)) (job .width) (x .size) (j + 1) (now (store .exit)) r ⌝ }
+    requires { ⌜ Searchable (now book) (now direction) (now entries) (now grams) (now heads) (now links) (now options) (job .task) ⌝ }
+    requires { ⌜ Chosen (bookOf (now book)) (now direction) (job .width) (source .place .size) (source .at) (source .place) × (source .at < 2 ^ 63) ⌝ }
+    requires { ⌜ Growing (bookOf (now book)) (now direction) (job .width) (source .place .size) (source .at) (0) (now store) count ⌝ }
+    ensures { λ r. ⌜ Levelled (bookOf (now (book .entry))) (now (direction .entry)) (job .width) (source .place .size) (source .at + 1) (now (store .exit)) r ⌝ }
 {
-    let runs = coverage::free_runs(x.state.covered, job.task.n);
+    let runs = coverage::free_runs(source.place.state.covered, job.task.n);
     let run = runs.run;
     let mut c = count;
     let mut i = 0;
     while i < job.task.n {
-        let long = run[i] as usize;
+        let spot = Spot {
+            source,
+            first: i + 1,
+            run: run[i] as usize,
+        };
         let Grown::On(more) = extend_from(
             store,
             c,
@@ -232,12 +246,8 @@ pub fn extend_all(
             heads,
             links,
             options,
-            starts,
             job,
-            x,
-            j,
-            i,
-            long,
+            spot,
         ) else {
             return Grown::Overflow;
         };

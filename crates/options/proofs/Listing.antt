@@ -1,11 +1,13 @@
 -- The options grow by one entry and by one first position at a time; together they are the steps that fit.
-use Prim.Native.Nat.{ℕ, zero, suc, _+_, _-_, _≤_, _<_, min}
+use Prim.Native.Nat.{ℕ, zero, suc, _+_, _-_, _*_, _≤_, _<_}
 use native.Mathlib.Omega.{arith}
 use native.Mathlib.Decide.{ℕ-discrete}
 use mathlib.Core.Path.{_≡_, refl, sym, _∙_, ap, subst}
-use mathlib.Core.Bool.{true, false}
+use mathlib.Core.Bool.{Bool, true, false}
+use borrow.Author.Tests.{leb-true, leb-false}
+use lib.Dec.{leb}
 use mathlib.Core.List.{List, [], _∷_, _++_, map, map-append, append-assoc, append-nil, List·Memᴰ, Memᴰ·of-map}
-use lib.ListN.{length, getD, set, take, length-set, length-append, length-map, length-take, List·getD-append, List·getD-map}
+use lib.ListN.{length, getD, set, take, length-set, length-append, length-map, List·getD-append, List·getD-map}
 use lib.Seq.{length-take-le, take-suc-set, getD-take, getD-append-add, getD-set-same, getD-set-other}
 use Rattle.laws.specs.Lists.{keep, concat, numbersFrom, oneTo}
 use Rattle.laws.proofs.Lists.{keep-++, keep-mem, keep-length, count-le, concat-++, numbers-next, numbers-length, getD-mem}
@@ -15,7 +17,7 @@ use Rattle.notes.specs.Derivation.{noStep, fits}
 use Rattle.notes.specs.Search.{stepAt, fittingSteps}
 use Rattle.notes.specs.declared.Step.{Step}
 use Rattle.notes.proofs.Steps.{fits-facts, listed-fits}
-use Rattle.options.specs.Options.{fittingAt, fittingTo, entryNumbers, Listed, OptionsOf}
+use Rattle.options.specs.Options.{optionsFrom, startAt, optionIn, fittingAt, fittingTo, entryNumbers, StartPut, Listed, OptionsOf}
 
 -- ════ one entry more
 
@@ -51,17 +53,17 @@ module _ (book : Book) (direction : List ℕ) (first : ℕ) where
       omega arith
 
 pub listed-none : (options : List ℕ) (from : ℕ) → Listed options options from from []
-listed-none options from = record { counted = omega arith; long = refl; put = sym (append-nil (take from options)) }
+listed-none options from = record { counted = omega arith; long = refl; put = sym (append-nil (take (optionsFrom + from) options)) }
 
-pub listed-more : {before after : List ℕ} {from count : ℕ} {steps : List Step} → Listed before after from count steps → count < length after → (step : Step) (entry : ℕ) → entry ≡ step .entry
-    → Listed before (set after count entry) from (count + 1) (steps ++ (step ∷ []))
+pub listed-more : {before after : List ℕ} {from count : ℕ} {steps : List Step} → Listed before after from count steps → optionsFrom + count < length after → (step : Step) (entry : ℕ) → entry ≡ step .entry
+    → Listed before (set after (optionsFrom + count) entry) from (count + 1) (steps ++ (step ∷ []))
 listed-more {before} {after} {from} {count} {steps} l h step entry e =
     record {
       counted = (let a = l .counted in let b : length (steps ++ (step ∷ [])) ≡ length steps + 1 = length-append steps (step ∷ []) in omega arith);
-      long = length-set after count entry ∙ l .long;
-      put = (let z : count + 1 ≡ suc count = omega arith in
-          rw (z, e) (take-suc-set after count (step .entry) h ∙ ap (λ (xs : List ℕ). xs ++ (step .entry ∷ [])) (l .put)
-          ∙ append-assoc (take from before) (entryNumbers steps) (step .entry ∷ []) ∙ ap (λ (xs : List ℕ). take from before ++ xs) (sym (map-append (λ s. s .entry) steps (step ∷ [])))));
+      long = length-set after (optionsFrom + count) entry ∙ l .long;
+      put = (let z : optionsFrom + (count + 1) ≡ suc (optionsFrom + count) = omega arith in
+          rw (z, e) (take-suc-set after (optionsFrom + count) (step .entry) h ∙ ap (λ (xs : List ℕ). xs ++ (step .entry ∷ [])) (l .put)
+          ∙ append-assoc (take (optionsFrom + from) before) (entryNumbers steps) (step .entry ∷ []) ∙ ap (λ (xs : List ℕ). take (optionsFrom + from) before ++ xs) (sym (map-append (λ s. s .entry) steps (step ∷ [])))));
     }
 
 -- a turn of the loop over the entries: entries 1 to k - 1 are done
@@ -72,20 +74,84 @@ module _ (book : Book) (direction : List ℕ) (first k : ℕ) {before after : Li
   pub entry-skipped : fits book direction (stepAt book first k) ≡ false → Listed before after from count (fittingAt book direction first (k + 1 - 1))
   entry-skipped e = rw (back, at-not book direction first k (k - 1) (omega arith) e) l
 
-  pub entry-room : (m : ℕ) → k ≤ m → from + m ≤ length before → count < length after
+  pub entry-room : (m : ℕ) → k ≤ m → optionsFrom + (from + m) ≤ length before → optionsFrom + count < length after
   entry-room m h room = let a = at-most book direction first (k - 1) in let b = l .counted in let d = l .long in omega arith
 
-  pub entry-taken : fits book direction (stepAt book first k) ≡ true → count < length after → (entry : ℕ) → entry ≡ k
-      → Listed before (set after count entry) from (count + 1) (fittingAt book direction first (k + 1 - 1))
+  pub entry-taken : fits book direction (stepAt book first k) ≡ true → optionsFrom + count < length after → (entry : ℕ) → entry ≡ k
+      → Listed before (set after (optionsFrom + count) entry) from (count + 1) (fittingAt book direction first (k + 1 - 1))
   entry-taken e h entry z = rw (back, at-fits book direction first k (k - 1) (omega arith) e) (listed-more l h (stepAt book first k) entry z)
+
+-- ════ what the records say of each start and option
+
+-- a start is noted as two halves
+module _ (options : List ℕ) (i rest times : ℕ) (inside : i ≤ 32) (long : optionsFrom ≤ length options) where
+  abbrev half : List ℕ
+  half = set options (2 * i) rest
+
+  abbrev both : List ℕ
+  both = set half (2 * i + 1) times
+
+  here-is : startAt both i ≡ rest + 65_536 * times
+  unfolding startAt
+  here-is =
+      let l = length-set options (2 * i) rest in
+      let a : getD both (2 * i) 0 ≡ rest = getD-set-other half (2 * i + 1) (2 * i) times 0 (λ e. omega arith) ∙ getD-set-same options (2 * i) rest 0 (omega arith) in
+      let b : getD both (2 * i + 1) 0 ≡ times = getD-set-same half (2 * i + 1) times 0 (omega arith) in
+      rw (a, b)
+
+  at-other : (k : ℕ) → (k ≡ 2 * i → ⊥) → (k ≡ 2 * i + 1 → ⊥) → getD both k 0 ≡ getD options k 0
+  at-other k a b = getD-set-other half (2 * i + 1) k times 0 b ∙ getD-set-other options (2 * i) k rest 0 a
+
+  other-is : (j : ℕ) → (j ≡ i → ⊥) → startAt both j ≡ startAt options j
+  unfolding startAt
+  other-is j n =
+      let a : getD both (2 * j) 0 ≡ getD options (2 * j) 0 = at-other (2 * j) (λ e. n (omega arith)) (λ e. omega arith) in
+      let b : getD both (2 * j + 1) 0 ≡ getD options (2 * j + 1) 0 = at-other (2 * j + 1) (λ e. omega arith) (λ e. n (omega arith)) in
+      rw (a, b)
+
+  option-is : (o : ℕ) → optionIn both o ≡ optionIn options o
+  unfolding optionIn
+  option-is o = at-other (optionsFrom + o) (λ e. omega arith) (λ e. omega arith)
+
+  pub start-put : (start : ℕ) → rest + 65_536 * times ≡ start → StartPut options both i start
+  start-put start e = record { long = length-set half (2 * i + 1) times ∙ length-set options (2 * i) rest; here = here-is ∙ e; others = other-is; options = option-is }
+
+-- what stands before the options that were listed is as it was
+module _ {before after : List ℕ} {from count : ℕ} {steps : List Step} (l : Listed before after from count steps) (inside : optionsFrom + from ≤ length before) where
+  front : length (take (optionsFrom + from) before) ≡ optionsFrom + from
+  front = length-take-le (optionsFrom + from) before inside
+
+  below : (p : ℕ) → p < optionsFrom + from → getD after p 0 ≡ getD before p 0
+  below p h =
+      let c = l .counted in
+      let f = front in
+      sym (getD-take (optionsFrom + count) after p 0 (omega arith)) ∙ ap (λ (xs : List ℕ). getD xs p 0) (l .put)
+      ∙ List·getD-append (take (optionsFrom + from) before) (entryNumbers steps) 0 p (omega arith) ∙ getD-take (optionsFrom + from) before p 0 h
+
+  listed-start : (j : ℕ) → j ≤ 32 → startAt after j ≡ startAt before j
+  unfolding startAt
+  listed-start j h = rw (below (2 * j) (omega arith), below (2 * j + 1) (omega arith))
+
+  listed-below : (p : ℕ) → p < from → optionIn after p ≡ optionIn before p
+  unfolding optionIn
+  listed-below p h = below (optionsFrom + p) (omega arith)
+
+  listed-at : (p q : ℕ) → p ≡ from + q → q < length steps → optionIn after p ≡ getD steps q noStep .entry
+  unfolding optionIn
+  listed-at p q e h =
+      let c = l .counted in
+      let z : optionsFrom + p ≡ optionsFrom + from + q = omega arith in
+      sym (getD-take (optionsFrom + count) after (optionsFrom + p) 0 (omega arith)) ∙ ap (λ (xs : List ℕ). getD xs (optionsFrom + p) 0) (l .put)
+      ∙ ap (λ (k : ℕ). getD (take (optionsFrom + from) before ++ entryNumbers steps) k 0) (z ∙ ap (λ (k : ℕ). k + q) (sym front))
+      ∙ getD-append-add (take (optionsFrom + from) before) (entryNumbers steps) q 0 ∙ List·getD-map (λ s. s .entry) steps q noStep
 
 -- ════ one first position more
 
--- what the lists hold after i first positions
-pub record Filled (book : Book) (direction options starts : List ℕ) (i count : ℕ) : Type 0 where
+-- what the list holds after i first positions
+pub record Filled (book : Book) (direction options : List ℕ) (i count : ℕ) : Type 0 where
   pub counted : count ≡ length (fittingTo book direction i)
-  pub put : take count options ≡ entryNumbers (fittingTo book direction i)
-  pub starts-at : (j : ℕ) → j ≤ i → getD starts j 0 ≡ length (fittingTo book direction j)
+  pub numbers : (p : ℕ) → p < count → optionIn options p ≡ getD (fittingTo book direction i) p noStep .entry
+  pub starts-at : (j : ℕ) → j ≤ i → startAt options j ≡ length (fittingTo book direction j)
 
 numbers-split : (from a b : ℕ) → numbersFrom from (a + b) ≡ numbersFrom from a ++ numbersFrom (from + a) b
 numbers-split from zero b = let z : 0 + b ≡ b = omega arith in let y : from + 0 ≡ from = omega arith in rw (z, y)
@@ -115,29 +181,46 @@ module _ (book : Book) (direction : List ℕ) where
   to-more : (i : ℕ) → to (i + 1) ≡ to i ++ at (i + 1)
   to-more i = let z : 1 + i ≡ i + 1 = omega arith in to-split i 1 ∙ rw z (ap (λ (xs : List Step). to i ++ xs) (append-nil (at (i + 1))))
 
-  pub filled-none : (options starts : List ℕ) → 0 < length starts → Filled book direction options (set starts 0 0) 0 0
-  filled-none options starts h =
+  pub filled-none : {options options′ : List ℕ} → StartPut options options′ 0 0 → Filled book direction options′ 0 0
+  filled-none s =
       record {
         counted = rw to-none;
-        put = rw to-none;
-        starts-at = λ j l. let z : j ≡ 0 = omega arith in rw (z, to-none) (getD-set-same starts 0 0 0 h);
+        numbers = λ p h. absurd (omega arith);
+        starts-at = λ j l. let z : j ≡ 0 = omega arith in rw (z, to-none) (s .here);
       }
 
-  pub filled-more : {options options′ starts : List ℕ} {i count r : ℕ} → Filled book direction options starts i count → Listed options options′ count r (at (i + 1))
-      → i + 1 < length starts → Filled book direction options′ (set starts (i + 1) r) (i + 1) r
-  filled-more {options} {options′} {starts} {i} {count} {r} f l h =
+  pub filled-more : {options options′ options″ : List ℕ} {i count r : ℕ} → Filled book direction options i count → i < 32 → optionsFrom + count ≤ length options
+      → Listed options options′ count r (at (i + 1)) → StartPut options′ options″ (i + 1) r → Filled book direction options″ (i + 1) r
+  filled-more {options} {options′} {options″} {i} {count} {r} f few room l s =
       record {
         counted = more;
-        put = l .put ∙ ap (λ (xs : List ℕ). xs ++ entryNumbers (at (i + 1))) (f .put) ∙ sym (ap entryNumbers (to-more i) ∙ map-append (λ s. s .entry) (to i) (at (i + 1)));
+        numbers = λ p h. s .options p ∙ number p h (leb count p) refl;
         starts-at = λ j k. here j k (ℕ-discrete j (i + 1));
       }
     where
-      more : r ≡ length (to (i + 1))
-      more = let a = l .counted in let b = f .counted in let d : length (to (i + 1)) ≡ length (to i) + length (at (i + 1)) = ap length (to-more i) ∙ length-append (to i) (at (i + 1)) in omega arith
+      sizes : length (to (i + 1)) ≡ length (to i) + length (at (i + 1))
+      sizes = ap length (to-more i) ∙ length-append (to i) (at (i + 1))
 
-      here : (j : ℕ) → j ≤ i + 1 → Dec (j ≡ i + 1) → getD (set starts (i + 1) r) j 0 ≡ length (to j)
-      here j k (yes e) = rw e (getD-set-same starts (i + 1) r 0 h ∙ more)
-      here j k (no e) = getD-set-other starts (i + 1) j r 0 e ∙ f .starts-at j (omega arith)
+      more : r ≡ length (to (i + 1))
+      more = let a = l .counted in let b = f .counted in let d = sizes in omega arith
+
+      number : (p : ℕ) → p < r → (behind : Bool) → leb count p ≡ behind → optionIn options′ p ≡ getD (to (i + 1)) p noStep .entry
+      number p h false e =
+          let b = leb-false count p e in
+          let c = f .counted in
+          listed-below l room p b ∙ f .numbers p b
+          ∙ ap (λ (x : Step). x .entry) (sym (ap (λ (xs : List Step). getD xs p noStep) (to-more i) ∙ List·getD-append (to i) (at (i + 1)) noStep p (omega arith)))
+      number p h true e =
+          let b = leb-true count p e in
+          let a = l .counted in
+          let c = f .counted in
+          let z : p ≡ length (to i) + (p - count) = omega arith in
+          listed-at l room p (p - count) (omega arith) (omega arith)
+          ∙ ap (λ (x : Step). x .entry) (sym (ap (λ (xs : List Step). getD xs p noStep) (to-more i) ∙ ap (λ (k : ℕ). getD (to i ++ at (i + 1)) k noStep) z ∙ getD-append-add (to i) (at (i + 1)) (p - count) noStep))
+
+      here : (j : ℕ) → j ≤ i + 1 → Dec (j ≡ i + 1) → startAt options″ j ≡ length (to j)
+      here j k (yes e) = rw e (s .here ∙ more)
+      here j k (no e) = s .others j e ∙ listed-start l room j (omega arith) ∙ f .starts-at j (omega arith)
 
   -- a step at one first position is that entry's step
   at-step : (first q : ℕ) → q < length (at first) → getD (at first) q noStep ≡ stepAt book first (getD (at first) q noStep .entry)
@@ -168,8 +251,8 @@ module _ (book : Book) (direction : List ℕ) where
   abbrev n : ℕ
   n = wordCount direction
 
-  pub options-are : {options starts : List ℕ} {count : ℕ} → Filled book direction options starts (wordCount direction) count → OptionsOf book direction options starts
-  options-are {options} {starts} {count} f =
+  pub options-are : {options : List ℕ} {count : ℕ} → Filled book direction options (wordCount direction) count → optionsFrom + count ≤ length options → OptionsOf book direction options
+  options-are {options} {count} f enough =
       record {
         begins = f .starts-at 0 (omega arith) ∙ ap length to-none;
         ends = f .starts-at n (omega arith) ∙ ap length all-are;
@@ -184,15 +267,11 @@ module _ (book : Book) (direction : List ℕ) where
             ap (λ (xs : List Step). getD xs p noStep) (sym all-are) ∙ same ∙ block i p t u
             ∙ ap (stepAt book (i + 1)) (ap (λ (s : Step). s .entry) (sym same) ∙ sym (number p (inside i p h u)));
         entries-in = λ p h. let e = f .starts-at n (omega arith) in let u : p < length (to n) = omega arith in bounds p u;
-        room = (let e = f .starts-at n (omega arith) in let c = f .counted in
-            let l : length (take count options) ≡ length (to n) = ap length (f .put) ∙ length-map (to n) (λ s. s .entry) in
-            let m : length (take count options) ≡ min count (length options) = length-take count options in omega arith);
+        room = (let e = f .starts-at n (omega arith) in let c = f .counted in omega arith);
       }
     where
-      number : (p : ℕ) → p < length (to n) → getD options p 0 ≡ getD (to n) p noStep .entry
-      number p h =
-          let c = f .counted in
-          sym (getD-take count options p 0 (omega arith)) ∙ ap (λ (xs : List ℕ). getD xs p 0) (f .put) ∙ List·getD-map (λ s. s .entry) (to n) p noStep
+      number : (p : ℕ) → p < length (to n) → optionIn options p ≡ getD (to n) p noStep .entry
+      number p h = let c = f .counted in f .numbers p (omega arith)
 
       inside : (i p : ℕ) → i < n → p < length (to (i + 1)) → p < length (to n)
       inside i p h u =
@@ -201,28 +280,8 @@ module _ (book : Book) (direction : List ℕ) where
           ap (λ (k : ℕ). length (to k)) (sym z) ∙ ap length (to-split (i + 1) (n - (i + 1))) ∙ length-append (to (i + 1)) (concat (map at (numbersFrom (1 + (i + 1)) (n - (i + 1))))) in
           omega arith
 
-      bounds : (p : ℕ) → p < length (to n) → (1 ≤ getD options p 0) × (getD options p 0 ≤ length (book .entries))
+      bounds : (p : ℕ) → p < length (to n) → (1 ≤ optionIn options p) × (optionIn options p ≤ length (book .entries))
       bounds p u =
           let m : List·Memᴰ (getD (to n) p noStep) (fittingSteps book direction) = subst (List·Memᴰ (getD (to n) p noStep)) all-are (getD-mem (to n) p noStep u) in
           let g = fits-facts book direction (getD (to n) p noStep) (listed-fits book direction (getD (to n) p noStep) m) in
           rw (number p u) (g .entry-from, g .entry-to)
-
--- ════ what `Listed` says place by place
-
-module _ {before after : List ℕ} {from count : ℕ} {steps : List Step} (l : Listed before after from count steps) (inside : from ≤ length before) where
-  front : length (take from before) ≡ from
-  front = length-take-le from before inside
-
-  pub listed-below : (p : ℕ) → p < from → getD after p 0 ≡ getD before p 0
-  listed-below p h =
-      let c = l .counted in
-      let f = front in
-      sym (getD-take count after p 0 (omega arith)) ∙ ap (λ (xs : List ℕ). getD xs p 0) (l .put)
-      ∙ List·getD-append (take from before) (entryNumbers steps) 0 p (omega arith) ∙ getD-take from before p 0 h
-
-  pub listed-at : (q : ℕ) → q < length steps → getD after (from + q) 0 ≡ getD steps q noStep .entry
-  listed-at q h =
-      let c = l .counted in
-      sym (getD-take count after (from + q) 0 (omega arith)) ∙ ap (λ (xs : List ℕ). getD xs (from + q) 0) (l .put)
-      ∙ ap (λ (k : ℕ). getD (take from before ++ entryNumbers steps) (k + q) 0) (sym front)
-      ∙ getD-append-add (take from before) (entryNumbers steps) q 0 ∙ List·getD-map (λ s. s .entry) steps q noStep

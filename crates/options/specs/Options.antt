@@ -1,5 +1,5 @@
--- The steps that fit, as the code lists them: the entry numbers one after the other, and where each first position begins.
-use Prim.Native.Nat.{ℕ, _+_, _≤_, _<_}
+-- The steps that fit, as the code lists them: one list, of where the options of each first position begin and then of their entry numbers.
+use Prim.Native.Nat.{ℕ, _+_, _*_, _≤_, _<_}
 use mathlib.Core.Path.{_≡_}
 use mathlib.Core.List.{List, _++_, map}
 use lib.ListN.{length, getD, take}
@@ -9,6 +9,18 @@ use Rattle.notes.specs.Direction.{wordCount}
 use Rattle.notes.specs.Derivation.{noStep, fits}
 use Rattle.notes.specs.Search.{stepAt, fittingSteps}
 use Rattle.notes.specs.declared.Step.{Step}
+
+-- the entry numbers stand behind the starts of positions 1 to 32 and of what would be the 33rd, two numbers each
+abbrev pub optionsFrom : ℕ
+optionsFrom = 66
+
+-- where the options of position i + 1 begin, counted in options: the rest below 65,536, and how many times 65,536
+unfoldable pub startAt : List ℕ → ℕ → ℕ
+startAt options i = getD options (2 * i) 0 + 65_536 * getD options (2 * i + 1) 0
+
+-- the entry number of option o
+unfoldable pub optionIn : List ℕ → ℕ → ℕ
+optionIn options o = getD options (optionsFrom + o) 0
 
 -- the steps of the first m entries that fit at a first position
 unfoldable pub fittingAt : Book → List ℕ → ℕ → ℕ → List Step
@@ -21,18 +33,25 @@ fittingTo book direction i = concat (map (λ first. fittingAt book direction fir
 abbrev pub entryNumbers : List Step → List ℕ
 entryNumbers steps = map (λ step. step .entry) steps
 
--- the steps' entries were put into a list from a place on, up to `count`; what stands below is as before
+-- the start of position i + 1 was noted; the other starts and the options are as before
+pub record StartPut (before after : List ℕ) (i start : ℕ) : Type 0 where
+  pub long : length after ≡ length before
+  pub here : startAt after i ≡ start
+  pub others : (j : ℕ) → (j ≡ i → ⊥) → startAt after j ≡ startAt before j
+  pub options : (o : ℕ) → optionIn after o ≡ optionIn before o
+
+-- the steps' entries were listed behind `from` options, which makes `count`; what stands before them is as before
 pub record Listed (before after : List ℕ) (from count : ℕ) (steps : List Step) : Type 0 where
   pub counted : count ≡ from + length steps
   pub long : length after ≡ length before
-  pub put : take count after ≡ take from before ++ entryNumbers steps
+  pub put : take (optionsFrom + count) after ≡ take (optionsFrom + from) before ++ entryNumbers steps
 
--- the options of first position i + 1 stand from starts[i] on, and end where the next begin
-pub record OptionsOf (book : Book) (direction : List ℕ) (options starts : List ℕ) : Type 0 where
-  pub begins : getD starts 0 0 ≡ 0
-  pub ends : getD starts (wordCount direction) 0 ≡ length (fittingSteps book direction)
-  pub rising : (i : ℕ) → i < wordCount direction → getD starts i 0 ≤ getD starts (i + 1) 0
-  pub each : (i p : ℕ) → i < wordCount direction → getD starts i 0 ≤ p → p < getD starts (i + 1) 0
-      → getD (fittingSteps book direction) p noStep ≡ stepAt book (i + 1) (getD options p 0)
-  pub entries-in : (p : ℕ) → p < getD starts (wordCount direction) 0 → (1 ≤ getD options p 0) × (getD options p 0 ≤ length (book .entries))
-  pub room : getD starts (wordCount direction) 0 ≤ length options
+-- the options of first position i + 1 stand from its start on, and end where the next begin
+pub record OptionsOf (book : Book) (direction options : List ℕ) : Type 0 where
+  pub begins : startAt options 0 ≡ 0
+  pub ends : startAt options (wordCount direction) ≡ length (fittingSteps book direction)
+  pub rising : (i : ℕ) → i < wordCount direction → startAt options i ≤ startAt options (i + 1)
+  pub each : (i p : ℕ) → i < wordCount direction → startAt options i ≤ p → p < startAt options (i + 1)
+      → getD (fittingSteps book direction) p noStep ≡ stepAt book (i + 1) (optionIn options p)
+  pub entries-in : (p : ℕ) → p < startAt options (wordCount direction) → (1 ≤ optionIn options p) × (optionIn options p ≤ length (book .entries))
+  pub room : optionsFrom + startAt options (wordCount direction) ≤ length options

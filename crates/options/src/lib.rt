@@ -1,11 +1,12 @@
 // The steps that fit: every entry at every first position, and the test of one proposed step.
+// They are one list of two parts: where the options of each first position begin, and then their entry numbers.
 use derivation::Phrase;
 use derivation::Task;
 use derivation::model;
 use derivation::places;
 ghost use mathlib.Core.Path.{_≡_};
 ghost use mathlib.Core.Bool.{_&&_};
-ghost use Prim.Native.Nat.{_+_, _*_, _≤_, _<_};
+ghost use Prim.Native.Nat.{_+_, _*_, _^_, _≤_, _<_};
 ghost use lib.Dec.{eqb, leb};
 ghost use lib.ListN.{length};
 ghost use Rattle.laws.specs.Lists.{eqList};
@@ -13,7 +14,36 @@ ghost use Rattle.notes.specs.Book.{Entry, bookOf};
 ghost use Rattle.notes.specs.Derivation.{wordsFromTo};
 ghost use Rattle.book.specs.Entries.{EntriesAt};
 ghost use Rattle.derivation.specs.Model.{PhraseOf, Phrased};
-ghost use Rattle.options.specs.Options.{fittingAt, Listed, OptionsOf};
+ghost use Rattle.options.specs.Options.{optionsFrom, startAt, optionIn, fittingAt, StartPut, Listed, OptionsOf};
+
+// Where the entry numbers of the options stand in the list: behind 33 starts of two numbers each.
+const OPTIONS_FROM: usize = 66;
+
+// Where the options of the position i + 1 begin, counted in options; with i the number of words, how many options there are.
+pub fn start_at(options: &[u16], i: usize) -> usize
+    requires { ⌜ (i ≤ 32) × (optionsFrom ≤ length (now options)) ⌝ }
+    ensures { λ r. ⌜ r ≡ startAt (now (options .entry)) i ⌝ }
+{
+    options[2 * i] as usize + 65536 * (options[2 * i + 1] as usize)
+}
+
+// The entry number of the option o.
+pub fn option_at(options: &[u16], o: usize) -> u16
+    requires { ⌜ optionsFrom + o < length (now options) ⌝ }
+    ensures { λ r. ⌜ r ≡ optionIn (now (options .entry)) o ⌝ }
+{
+    options[OPTIONS_FROM + o]
+}
+
+// Notes where the options of the position i + 1 begin: the rest below 65,536, and how many times 65,536.
+fn put_start(options: &mut [u16], i: usize, start: usize)
+    requires { ⌜ (i ≤ 32) × (optionsFrom ≤ length (now options)) ⌝ }
+    requires { ⌜ start < 2 ^ 32 ⌝ }
+    ensures { λ _. ⌜ StartPut (now (options .entry)) (now (options .exit)) i start ⌝ }
+{
+    options[2 * i] = (start % 65536) as u16;
+    options[2 * i + 1] = (start / 65536) as u16;
+}
 
 // The entry's source words are the direction's words first to last, no more and no fewer.
 pub fn fits_at(book: &[i32], p: Phrase, direction: &[u16], first: usize, last: usize) -> bool
@@ -42,7 +72,7 @@ pub fn fits_at(book: &[i32], p: Phrase, direction: &[u16], first: usize, last: u
     true
 }
 
-// The entries that fit at the position `first`, in order, put into `options` from `from` on; how many options there are then.
+// The entries that fit at the position `first`, in order, listed behind `from` options; how many options there are then.
 pub fn list_at(
     book: &[i32],
     entries: &[usize],
@@ -55,7 +85,7 @@ pub fn list_at(
     requires { ⌜ EntriesAt (now book) (now entries) (t .phrases) ⌝ }
     requires { ⌜ t .phrases ≤ length (now entries) ⌝ }
     requires { ⌜ (1 ≤ first) × (first ≤ 32) ⌝ }
-    requires { ⌜ from + t .phrases ≤ length (now options) ⌝ }
+    requires { ⌜ optionsFrom + (from + t .phrases) ≤ length (now options) ⌝ }
     ensures { λ r. ⌜ Listed (now (options .entry)) (now (options .exit)) from r (fittingAt (bookOf (now (book .entry))) (now (direction .entry)) first (t .phrases)) ⌝ }
 {
     let mut count = from;
@@ -73,34 +103,32 @@ pub fn list_at(
             }
             j += 1;
         }
-        options[count] = (k - 1) as u16;
+        options[OPTIONS_FROM + count] = (k - 1) as u16;
         count += 1;
     }
     count
 }
 
-// Every step that fits, by first position and then by entry: starts[i] is where the options of first = i + 1 begin, and behind
-// the last position, starts[n] is their number.
+// Every step that fits, by first position and then by entry, and where the options of each first position begin.
 pub fn list_options(
     book: &[i32],
     entries: &[usize],
     t: Task,
     direction: &[u16],
     options: &mut [u16],
-    starts: &mut [usize],
 )
     requires { ⌜ EntriesAt (now book) (now entries) (t .phrases) ⌝ }
     requires { ⌜ t .phrases ≤ length (now entries) ⌝ }
     requires { ⌜ length (now direction) ≤ 32 ⌝ }
-    requires { ⌜ (32 * 4096 ≤ length (now options)) × (33 ≤ length (now starts)) ⌝ }
-    ensures { λ r. ⌜ OptionsOf (bookOf (now (book .entry))) (now (direction .entry)) (now (options .exit)) (now (starts .exit)) ⌝ }
+    requires { ⌜ optionsFrom + 32 * 4096 ≤ length (now options) ⌝ }
+    ensures { λ r. ⌜ OptionsOf (bookOf (now (book .entry))) (now (direction .entry)) (now (options .exit)) ⌝ }
 {
     let mut count = 0;
     let mut i = 0;
-    starts[0] = 0;
+    put_start(options, 0, 0);
     while i < direction.len() {
         count = list_at(book, entries, t, direction, i + 1, options, count);
         i += 1;
-        starts[i] = count;
+        put_start(options, i, count);
     }
 }

@@ -20,8 +20,7 @@ pub fn decode_plain(
     let mut heads = [0u16; 8192];
     let mut links = [0u16; 8192];
     let mut entries = [0usize; 4096];
-    let mut options = [0u16; 131072];
-    let mut starts = [0usize; 33];
+    let mut options = [0u16; 131138];
     match prepare::prepare(
         book,
         direction,
@@ -40,7 +39,6 @@ pub fn decode_plain(
                 &heads,
                 &links,
                 &mut options,
-                &mut starts,
                 job,
                 room,
                 words,

@@ -1,5 +1,6 @@
 // The sets of states, one after the other: those that cover no word, one word, and so on, and each state within the width is extended.
 use extending::Job;
+use extending::Source;
 use notes::State;
 use states::Grown;
 use store::Place;
@@ -12,10 +13,16 @@ ghost use Rattle.notes.specs.Book.{bookOf};
 ghost use Rattle.notes.specs.Direction.{wordCount};
 ghost use Rattle.notes.specs.Search.{search};
 ghost use Rattle.states.specs.Ghost.{Levelling, Levelled, Starting, Reached, topOf};
-ghost use Rattle.extending.specs.Extend.{Ready};
+ghost use Rattle.extending.specs.Extend.{Searchable};
 
-// The place j of the set i, whose best score is `top`: it is passed over where it covers another number of words or is out of the
-// width, and else extended.
+// A place whose state may be extended: its number, the set that is extended, and the best score of that set.
+pub struct Candidate {
+    pub at: usize,
+    pub set: usize,
+    pub top: i64,
+}
+
+// The place is passed over where it covers another number of words than the set or is out of the width, and else extended.
 fn visit(
     store: &mut [i64],
     count: usize,
@@ -26,25 +33,26 @@ fn visit(
     heads: &[u16],
     links: &[u16],
     options: &[u16],
-    starts: &[usize],
     job: Job,
-    i: usize,
-    j: usize,
-    top: i64,
+    candidate: Candidate,
 ) -> Grown
-    requires { ⌜ Ready (now book) (now direction) (now entries) (now grams) (now heads) (now links) (now options) (now starts) (job .task) ⌝ }
-    requires { ⌜ (i < job .task .n) × (j < length (upto (search (bookOf (now book)) (now direction) (job .width)) i)) ⌝ }
-    requires { ⌜ top ≡ topOf (bookOf (now book)) (now direction) (job .width) i ⌝ }
-    requires { ⌜ Levelling (bookOf (now book)) (now direction) (job .width) i j (now store) count ⌝ }
-    ensures { λ r. ⌜ Levelled (bookOf (now (book .entry))) (now (direction .entry)) (job .width) i (j + 1) (now (store .exit)) r ⌝ }
+    requires { ⌜ Searchable (now book) (now direction) (now entries) (now grams) (now heads) (now links) (now options) (job .task) ⌝ }
+    requires { ⌜ (candidate .set < job .task .n) × (candidate .at < length (upto (search (bookOf (now book)) (now direction) (job .width)) (candidate .set))) ⌝ }
+    requires { ⌜ candidate .top ≡ topOf (bookOf (now book)) (now direction) (job .width) (candidate .set) ⌝ }
+    requires { ⌜ Levelling (bookOf (now book)) (now direction) (job .width) (candidate .set) (candidate .at) (now store) count ⌝ }
+    ensures { λ r. ⌜ Levelled (bookOf (now (book .entry))) (now (direction .entry)) (job .width) (candidate .set) (candidate .at + 1) (now (store .exit)) r ⌝ }
 {
-    let x = store::places::place_at(store, j);
-    if x.size != i {
+    let x = store::places::place_at(store, candidate.at);
+    if x.size != candidate.set {
         return Grown::On(count);
     }
-    if !states::reading::is_within(top, x.state, job.width) {
+    if !states::reading::is_within(candidate.top, x.state, job.width) {
         return Grown::On(count);
     }
+    let source = Source {
+        place: x,
+        at: candidate.at,
+    };
     extending::extend_all(
         store,
         count,
@@ -55,10 +63,8 @@ fn visit(
         heads,
         links,
         options,
-        starts,
         job,
-        x,
-        j,
+        source,
     )
 }
 
@@ -73,11 +79,10 @@ fn level(
     heads: &[u16],
     links: &[u16],
     options: &[u16],
-    starts: &[usize],
     job: Job,
     i: usize,
 ) -> Grown
-    requires { ⌜ Ready (now book) (now direction) (now entries) (now grams) (now heads) (now links) (now options) (now starts) (job .task) ⌝ }
+    requires { ⌜ Searchable (now book) (now direction) (now entries) (now grams) (now heads) (now links) (now options) (job .task) ⌝ }
     requires { ⌜ i < job .task .n ⌝ }
     requires { ⌜ Starting (bookOf (now book)) (now direction) (job .width) i (now store) count ⌝ }
     ensures { λ r. ⌜ Reached (bookOf (now (book .entry))) (now (direction .entry)) (job .width) (i + 1) (now (store .exit)) r ⌝ }
@@ -86,6 +91,7 @@ fn level(
     let mut c = count;
     let mut j = 0;
     while j < count {
+        let candidate = Candidate { at: j, set: i, top };
         let Grown::On(more) = visit(
             store,
             c,
@@ -96,11 +102,8 @@ fn level(
             heads,
             links,
             options,
-            starts,
             job,
-            i,
-            j,
-            top,
+            candidate,
         ) else {
             return Grown::Overflow;
         };
@@ -120,10 +123,9 @@ pub fn search(
     heads: &[u16],
     links: &[u16],
     options: &[u16],
-    starts: &[usize],
     job: Job,
 ) -> Grown
-    requires { ⌜ Ready (now book) (now direction) (now entries) (now grams) (now heads) (now links) (now options) (now starts) (job .task) ⌝ }
+    requires { ⌜ Searchable (now book) (now direction) (now entries) (now grams) (now heads) (now links) (now options) (job .task) ⌝ }
     requires { ⌜ now store ≡ replicate (length (now store)) (pos 0) ⌝ }
     ensures { λ r. ⌜ Reached (bookOf (now (book .entry))) (now (direction .entry)) (job .width) (wordCount (now (direction .entry))) (now (store .exit)) r ⌝ }
 {
@@ -153,7 +155,6 @@ pub fn search(
             heads,
             links,
             options,
-            starts,
             job,
             i,
         ) else {

@@ -1,13 +1,14 @@
 -- One position after the other, each with its run of free positions.
 use borrow.Author.Needs.{needs}
 use native.Mathlib.Omega.{arith}
-use mathlib.Core.Path.{_≡_, refl, _∙_, subst, sym}
-use Prim.Native.Nat.{ℕ, _-_, _≤_}
-use lib.ListN.{length, getD}
+use mathlib.Core.Path.{_≡_, refl, _∙_, sym}
+use Prim.Native.Nat.{_+_, _-_, _≤_}
+use lib.ListN.{length}
 use Rattle.notes.specs.Book.{bookOf}
+use Rattle.options.specs.Options.{startAt}
 use Rattle.states.specs.Ghost.{Growing}
 use Rattle.states.proofs.Ghost.{ended}
-use Rattle.extending.proofs.Turns.{spot-of, all-done}
+use Rattle.extending.proofs.Turns.{spot-at, all-done}
 use Rattle.extending.proofs.extend_all.Statement.{statement}
 use Rattle.extending.proofs.extend_all.Tie as tie
 use Rattle.extending.proofs.extend_all.Reads as reads
@@ -16,68 +17,76 @@ use Rattle.coverage.proofs.free_runs.Reads as free-runs-reads
 use Rattle.extending.proofs.extend_from.Reads as extend-from-reads
 
 abbrev Inv-loop : tie.InvT-loop
-Inv-loop store₀ count book direction entries grams heads links options starts job x j run c₀ i₀ store c i =
-    (i ≤ job .task .n) × ((length store ≡ length store₀) × Growing (bookOf book) direction (job .width) (x .size) j (getD starts i 0) store c)
+Inv-loop store₀ count book direction entries grams heads links options job source run c₀ i₀ store c i =
+    (i ≤ job .task .n) × ((length store ≡ length store₀) × Growing (bookOf book) direction (job .width) (source .place .size) (source .at) (startAt options i) store c)
 
 abbrev μ-loop : tie.MeasureT-loop
-μ-loop store₀ count book direction entries grams heads links options starts job x j run c₀ i₀ store c i =
+μ-loop store₀ count book direction entries grams heads links options job source run c₀ i₀ store c i =
     job .task .n - i
 
--- src/extend.rt:217:9
+-- src/lib.rt:229:9
 free-runs-requires : tie.Need-free-runs-requires Inv-loop μ-loop
 free-runs-requires c κs = search needs
 
--- src/extend.rt:221:5
+-- src/lib.rt:233:5
 loop-holds : tie.Need-loop-holds Inv-loop μ-loop
-loop-holds c = let s = c .before .before .before .before .before .before .before .before in (omega arith, (refl, subst (λ (o : ℕ). Growing (bookOf (s .args .book .now)) (s .args .direction .now) (s .args .job .width) (s .args .x .size) (s .args .j) o (s .args .store .now) (s .args .count)) (sym (s .pre .0 .choices .options-of .begins)) (s .pre .1 .1)))
+loop-holds c = let s = c .before .before .before .before .before .before .before in (omega arith, (refl, rw (sym (s .pre .0 .choices .options-of .begins)) at (s .pre .1 .1)))
 
--- src/extend.rt:222:20
-array-read-long : tie.Need-array-read-long Inv-loop μ-loop
-array-read-long c = search needs
+-- src/lib.rt:236:20
+add-t19 : tie.Need-add-t19 Inv-loop μ-loop
+add-t19 c = search needs
 
--- src/extend.rt:222:20
-cast-long : tie.Need-cast-long Inv-loop μ-loop
-cast-long c = search needs
+-- src/lib.rt:237:18
+array-read-t22 : tie.Need-array-read-t22 Inv-loop μ-loop
+array-read-t22 c = search needs
 
--- src/extend.rt:223:31
+-- src/lib.rt:237:18
+cast-t23 : tie.Need-cast-t23 Inv-loop μ-loop
+cast-t23 c = search needs
+
+-- src/lib.rt:239:31
 extend-from-requires : tie.Need-extend-from-requires Inv-loop μ-loop
-extend-from-requires c κs = let s = c .before .before .before .before .before .before .before .before .before .before .before .before in let l = c .before .before .before .loop in (s .pre .0, (spot-of (s .pre .0) (s .pre .1 .0 .0) (s .pre .1 .0 .1) _ (c .before .before .before .before .before .free-runs .ensures) (l .i) (c .before .if1 .taken), l .inv .1 .1))
+extend-from-requires c κs =
+    let s = c .before .before .before .before .before .before .before .before .before .before .before in
+    let l = c .before .before .before .loop in
+    let z : l .i ≡ l .i + 1 - 1 = omega arith in
+    (s .pre .0, (spot-at (s .pre .0) (s .pre .1 .0 .0) (s .pre .1 .0 .1) _ (c .before .before .before .before .before .free-runs .ensures) (l .i) (c .before .if1 .taken), rw z at (l .inv .1 .1)))
 
--- src/extend.rt:223:23
+-- src/lib.rt:239:23
 enum-known-more : tie.Need-enum-known-more Inv-loop μ-loop
 enum-known-more c = search needs
 
--- src/extend.rt:224:13
+-- src/lib.rt:252:13
 enum-told : tie.Need-enum-told Inv-loop μ-loop
 enum-told c = search needs
 
--- src/extend.rt:224:13
+-- src/lib.rt:252:13
 same-length : tie.Need-same-length Inv-loop μ-loop
 same-length c = search needs
 
--- src/extend.rt:224:13
+-- src/lib.rt:252:13
 returns : tie.Need-returns Inv-loop μ-loop
 returns c = rw (c .enum-told .given .1) at (c .before .before .before .extend-from .ensures)
 
--- src/extend.rt:227:9
+-- src/lib.rt:255:9
 add-i : tie.Need-add-i Inv-loop μ-loop
 add-i c = search needs
 
--- src/extend.rt:221:5
+-- src/lib.rt:233:5
 loop-less : tie.Need-loop-less Inv-loop μ-loop
 loop-less c = search needs
 
--- src/extend.rt:221:5
+-- src/lib.rt:233:5
 loop-again : tie.Need-loop-again Inv-loop μ-loop
 loop-again c = let l = c .before .before .before .before .before .before .before .before .loop in let e = c .before .before .before .before .extend-from in (omega arith, (e .kept .0 ∙ l .inv .1 .0, rw (c .before .more .given .1) at (e .ensures)))
 
--- src/extend.rt:197:1
+-- src/lib.rt:211:1
 same-length-2 : tie.Need-same-length-2 Inv-loop μ-loop
 same-length-2 c = search needs
 
--- src/extend.rt:197:1
+-- src/lib.rt:211:1
 returns-2 : tie.Need-returns-2 Inv-loop μ-loop
-returns-2 c = let s = c .before .before .before .before .before .before .before .before .before .before .before in let l = c .before .before .loop in ended _ _ _ (all-done (s .pre .0) (l .i) (l .inv .0) (c .if1 .left)) (l .inv .1 .1)
+returns-2 c = let s = c .before .before .before .before .before .before .before .before .before .before in let l = c .before .before .loop in ended _ _ _ (all-done (s .pre .0) (l .i) (l .inv .0) (c .if1 .left)) (l .inv .1 .1)
 
 pub extend-all-spec : {M : Type 1} → statement M
 extend-all-spec =
@@ -87,8 +96,9 @@ extend-all-spec =
     μ-loop
     free-runs-requires
     loop-holds
-    array-read-long
-    cast-long
+    add-t19
+    array-read-t22
+    cast-t23
     extend-from-requires
     enum-known-more
     enum-told

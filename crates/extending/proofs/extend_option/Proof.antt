@@ -7,44 +7,42 @@ use Rattle.extending.proofs.extend_option.Statement.{statement}
 use Rattle.extending.proofs.extend_option.Tie as tie
 use Rattle.extending.proofs.extend_option.Reads as reads
 use Rattle.extending.proofs.extend_option.Lts as lts
+use Rattle.derivation.proofs.places.phrase_at.Reads as phrase-at-reads
 use Rattle.extending.proofs.grow.Reads as grow-reads
 use Rattle.extending.proofs.next_place.Reads as next-place-reads
-use Rattle.derivation.proofs.places.phrase_at.Reads as phrase-at-reads
 
--- src/extend.rt:75:9
+-- src/lib.rt:113:9
 phrase-at-requires : tie.Need-phrase-at-requires
 phrase-at-requires c κs = search needs
 
--- src/extend.rt:77:9
+-- src/lib.rt:115:9
 returns : tie.Need-returns
-returns c =
-    let b = c .before .before .before .before .before .before .before .before in
-    turn-skips _ _ _ _ _ _ _ _ _ _ _ _ _ (b .pre .0) _ (c .before .before .phrase-at .ensures) (b .pre .1) (c .if1 .taken)
+returns c = let b = c .before .before .before .before .before .before .before .before .before in turn-skips (b .pre .0) (c .before .before .before .phrase-at .ensures) (b .pre .1) (c .if1 .taken)
 
--- src/extend.rt:79:9
+-- src/lib.rt:117:9
 next-place-requires : tie.Need-next-place-requires
 next-place-requires c κs =
-    let b = c .before .before .before .before .before .before .before .before in
-    let of = c .before .before .phrase-at .ensures in
-    (b .pre .0 .prepared .model, (record { entry = entryAt (bookOf (b .args .book .now)) (b .args .k); is = of }, turn-can _ _ _ _ _ _ _ _ _ _ _ _ _ (b .pre .0) _ of (c .if1 .left)))
+    let b = c .before .before .before .before .before .before .before .before .before in
+    let of = c .before .before .before .phrase-at .ensures in
+    (b .pre .0 .prepared .model, (record { entry = entryAt (bookOf (b .args .book .now)) (b .args .turn .entry); is = of }, turn-can (b .pre .0) of (c .if1 .left)))
 
--- src/extend.rt:80:5
+-- src/lib.rt:118:5
 grow-requires : tie.Need-grow-requires
 grow-requires c κs =
-    let b = c .before .before .before .before .before .before .before .before .before .before in
-    let of = c .before .before .before .before .phrase-at .ensures in
-    (b .pre .1 .index, turn-storable _ _ _ _ _ _ _ _ _ _ _ _ _ (b .pre .0) _ of (c .before .before .if1 .left) _ (c .before .next-place .ensures _ of))
+    let b = c .before .before .before .before .before .before .before .before .before .before .before in
+    let of = c .before .before .before .before .before .phrase-at .ensures in
+    (b .pre .1 .index, turn-storable (b .pre .0) of (c .before .before .if1 .left) _ (c .before .next-place .ensures _ of))
 
--- src/extend.rt:53:1
+-- src/lib.rt:96:1
 same-length : tie.Need-same-length
 same-length c = search needs
 
--- src/extend.rt:53:1
+-- src/lib.rt:96:1
 returns-2 : tie.Need-returns-2
 returns-2 c =
-    let b = c .before .before .before .before .before .before .before .before .before .before .before .before in
-    let of = c .before .before .before .before .before .before .phrase-at .ensures in
-    turn-grows _ _ _ _ _ _ _ _ _ _ _ _ _ (b .pre .0) _ of (c .before .before .before .before .if1 .left) _ (c .before .before .before .next-place .ensures _ of) (b .pre .1) _ (c .before .grow .ensures)
+    let b = c .before .before .before .before .before .before .before .before .before .before .before .before .before in
+    let of = c .before .before .before .before .before .before .before .phrase-at .ensures in
+    turn-grows (b .pre .0) of (c .before .before .before .before .if1 .left) _ (c .before .before .before .next-place .ensures _ of) (b .pre .1) _ (c .before .grow .ensures)
 
 pub extend-option-spec : {M : Type 1} → statement M
 extend-option-spec =

@@ -11,28 +11,28 @@ use Rattle.extending.proofs.next_place.Reads as reads
 use Rattle.extending.proofs.next_place.Lts as lts
 use Rattle.derivation.proofs.step.next_state.Reads as next-state-reads
 
--- src/extend.rt:23:16
+-- src/lib.rt:60:16
 add-last : tie.Need-add-last
 add-last c = search needs
 
--- src/extend.rt:23:16
+-- src/lib.rt:60:16
 sub-last : tie.Need-sub-last
 sub-last c = search needs
 
--- src/extend.rt:24:9
+-- src/lib.rt:61:9
 next-state-requires : tie.Need-next-state-requires
 next-state-requires c κs = search needs
 
--- src/extend.rt:27:15
-add-t13 : tie.Need-add-t13
-add-t13 c = search needs
+-- src/lib.rt:74:15
+add-t12 : tie.Need-add-t12
+add-t12 c = let n = c .before .before .before .before .before .before .before .before .before .pre .1 .1 .size-small in let l = c .before .before .before .before .before .before .before .before .before .pre .1 .0 .is .source-at .few in search needs
 
--- src/extend.rt:17:1
+-- src/lib.rt:44:1
 returns : tie.Need-returns
 unfolding nextPlace
 returns c = λ e q.
-    let a = c .before .before .before .before .before .before .args in
-    ap {B = Place} (λ (z : State). record { state = z; size = a .x .size + a .p .long; parent = a .j; option = a .option }) (c .before .before .next-state .ensures e q)
+    let a = c .before .before .before .before .before .before .before .before .before .args in
+    ap {B = Place} (λ (z : State). record { state = z; size = a .turn .spot .source .place .size + a .p .long; parent = a .turn .spot .source .at; option = a .turn .option }) (c .before .before .next-state .ensures e q)
 
 pub next-place-spec : {M : Type 1} → statement M
-next-place-spec = tie.close (tie.spec add-last sub-last next-state-requires add-t13 returns)
+next-place-spec = tie.close (tie.spec add-last sub-last next-state-requires add-t12 returns)

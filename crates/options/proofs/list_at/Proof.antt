@@ -6,7 +6,7 @@ use mathlib.Core.Path.{_≡_, refl, sym, _∙_}
 use lib.ListN.{length}
 use Rattle.notes.specs.Book.{bookOf}
 use Rattle.notes.specs.Derivation.{entryAt}
-use Rattle.options.specs.Options.{fittingAt, Listed}
+use Rattle.options.specs.Options.{optionsFrom, fittingAt, Listed}
 use Rattle.options.proofs.Fits.{Agreed, agreed-more, agreed-stops, agreed-ends, entry-past, entry-here}
 use Rattle.options.proofs.Listing.{at-none, listed-none, entry-skipped, entry-room, entry-taken}
 use Rattle.options.proofs.list_at.Statement.{statement}
@@ -163,7 +163,7 @@ small : (b : tie.Start Inv-words μ-words Inv-entries μ-entries) → length (b 
 small b = omega arith
 
 -- there is room for one option more
-room : (c : tie.Else3 Inv-words μ-words Inv-entries μ-entries) → c .before .before .before .before .before .before .before .before .entries .count < length (c .before .before .before .before .before .before .before .before .entries .options)
+room : (c : tie.Else3 Inv-words μ-words Inv-entries μ-entries) → optionsFrom + c .before .before .before .before .before .before .before .before .entries .count < length (c .before .before .before .before .before .before .before .before .entries .options)
 room c =
     let s = c .before .before .before .before .before .before .before .before .before .before .before .before in
     let l = c .before .before .before .before .before .before .before .before .entries in
@@ -176,6 +176,10 @@ sub-options c = omega arith
 -- src/options.rt:76:26
 cast-options : tie.Need-cast-options Inv-words μ-words Inv-entries μ-entries
 cast-options c = let h = c .before .before .before .before .before .before .if1 .taken in let f = c .before .before .before .before .before .before .before .before .before .before .before .before .pre .0 .few in omega arith
+
+-- src/options.rt:76:9
+add-options : tie.Need-add-options Inv-words μ-words Inv-entries μ-entries
+add-options c = let r = room c in let d = c .before .before .before .before .before .before .before .before .entries .inv .1 .1 .long in let m = small (c .before .before .before .before .before .before .before .before .before .before .before .before) in omega (arith, r, d, m)
 
 -- src/options.rt:76:9
 mul-options : tie.Need-mul-options Inv-words μ-words Inv-entries μ-entries
@@ -258,6 +262,7 @@ list-at-spec =
     words-again
     sub-options
     cast-options
+    add-options
     mul-options
     slice-write-options
     add-count

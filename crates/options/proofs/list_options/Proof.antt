@@ -1,125 +1,128 @@
--- After i first positions the lists hold the options of those.
-use Prim.Native.Nat.{ℕ, _+_, _-_, _*_, _≤_, _<_}
+-- After i first positions the list holds the options of those, and where they begin.
+use borrow.Author.Needs.{needs}
+use Prim.Native.Nat.{ℕ, _+_, _-_, _*_, _≤_}
 use native.Mathlib.Omega.{arith}
 use mathlib.Core.Path.{_≡_, refl, _∙_}
 use mathlib.Core.List.{List}
-use lib.ListN.{length, length-set}
+use lib.ListN.{length}
 use Rattle.notes.specs.Book.{Book, bookOf}
 use Rattle.notes.specs.Direction.{wordCount}
 use Rattle.options.proofs.Listing.{Filled, filled-none, filled-more, at-most, options-are}
 use Rattle.options.proofs.list_options.Statement.{statement}
 use Rattle.options.proofs.list_options.Tie as tie
+use Rattle.options.proofs.list_options.Reads as reads
+use Rattle.options.proofs.list_options.Lts as lts
+use Rattle.options.proofs.list_at.Reads as list-at-reads
+use Rattle.options.proofs.put_start.Reads as put-start-reads
 
-record Filling (book : Book) (direction options₀ starts₀ options starts : List ℕ) (i count : ℕ) : Type 0 where
+record Filling (book : Book) (direction options₀ options : List ℕ) (i count : ℕ) : Type 0 where
   inside : i ≤ length direction
-  options-long : length options ≡ length options₀
-  starts-long : length starts ≡ length starts₀
+  long : length options ≡ length options₀
   few : count ≤ i * 4_096
-  filled : Filled book direction options starts i count
+  filled : Filled book direction options i count
 
 abbrev Inv-loop : tie.InvT-loop
-Inv-loop book entries t direction options₀ starts₀ count₀ i₀ options starts count i = Filling (bookOf book) direction options₀ starts₀ options starts i count
+Inv-loop book entries t direction options₀ count₀ i₀ options count i = Filling (bookOf book) direction options₀ options i count
 
 abbrev μ-loop : tie.MeasureT-loop
-μ-loop book entries t direction options₀ starts₀ count₀ i₀ options starts count i = length direction - i
+μ-loop book entries t direction options₀ count₀ i₀ options count i = length direction - i
 
--- src/options.rt:100:5
-slice-write-starts : tie.Need-slice-write-starts Inv-loop μ-loop
-slice-write-starts c = let h = c .before .before .before .before .pre .1 .1 .1 .1 in omega arith
+-- src/lib.rt:128:5
+put-start-requires : tie.Need-put-start-requires Inv-loop μ-loop
+put-start-requires c κs = let h = c .before .before .before .before .pre .1 .1 .1 in ((omega arith, omega arith), omega arith)
 
--- src/options.rt:101:5
+-- src/lib.rt:129:5
 loop-holds : tie.Need-loop-holds Inv-loop μ-loop
 loop-holds c =
-    let s = c .before .before .before .before in
-    let h = s .pre .1 .1 .1 .1 in
-    record {
-      inside = omega arith;
-      options-long = refl;
-      starts-long = refl;
-      few = omega arith;
-      filled = filled-none (bookOf (s .args .book .now)) (s .args .direction .now) (s .args .options .now) (s .args .starts .now) (omega arith);
-    }
+    let s = c .before .before .before .before .before .before .before in
+    record { inside = omega arith; long = refl; few = omega arith; filled = filled-none (bookOf (s .args .book .now)) (s .args .direction .now) (c .before .before .put-start .ensures) }
 
--- src/options.rt:102:54
+-- src/lib.rt:130:54
 add-list-at : tie.Need-add-list-at Inv-loop μ-loop
-add-list-at c = let h = c .before .before .before .before .before .before .pre .1 .1 .0 in let t = c .loop-test .taken in omega arith
+add-list-at c = let h = c .before .before .before .before .before .before .before .before .before .pre .1 .1 .0 in let t = c .loop-test .taken in omega arith
 
--- src/options.rt:102:9
+-- src/lib.rt:130:9
 list-at-requires : tie.Need-list-at-requires Inv-loop μ-loop
 list-at-requires c κs =
-    let s = c .before .before .before .before .before .before .before in
+    let s = c .before .before .before .before .before .before .before .before .before .before in
     let l = c .before .before .loop .inv in
     let t = c .before .loop-test .taken in
     let d = s .pre .1 .1 .0 in
-    let r = s .pre .1 .1 .1 .0 in
+    let r = s .pre .1 .1 .1 in
     let f = s .pre .0 .few in
     let a = l .few in
-    let o = l .options-long in
+    let o = l .long in
+    let k = c .before .before .before .before .before .put-start .ensures .long in
     (s .pre .0, (s .pre .1 .0, ((omega arith, omega arith), omega arith)))
 
--- src/options.rt:103:9
+-- src/lib.rt:131:9
 add-i : tie.Need-add-i Inv-loop μ-loop
-add-i c = let h = c .before .before .before .before .before .before .before .before .before .before .pre .1 .1 .0 in let t = c .before .before .before .before .loop-test .taken in omega arith
+add-i c = search needs
 
--- src/options.rt:104:9
-mul-starts : tie.Need-mul-starts Inv-loop μ-loop
-mul-starts c = let h = c .before .before .before .before .before .before .before .before .before .before .pre .1 .1 .0 in let t = c .before .before .before .before .loop-test .taken in omega arith
+-- src/lib.rt:132:9
+put-start-requires-2 : tie.Need-put-start-requires-2 Inv-loop μ-loop
+put-start-requires-2 c κs =
+    let s = c .before .before .before .before .before .before .before .before .before .before .before .before .before .before in
+    let t = c .before .before .before .before .before .loop-test .taken in
+    let l = c .before .before .before .before .before .before .loop in
+    let d = s .pre .1 .1 .0 in
+    let r = s .pre .1 .1 .1 in
+    let o = l .inv .long in
+    let k = c .before .before .before .before .before .before .before .before .before .put-start .ensures .long in
+    let g = c .before .before .before .list-at in
+    let e = g .ensures .long in
+    let f = s .pre .0 .few in
+    let m = at-most (bookOf (s .args .book .now)) (s .args .direction .now) (l .i + 1) (s .args .t .phrases) in
+    let a = l .inv .few in
+    let n = g .ensures .counted in
+    ((omega arith, omega arith), omega arith)
 
-room : (c : tie.After-slice-known3 Inv-loop μ-loop) → c .before .before .before .before .before .loop .i + 1 < length (c .before .before .before .before .before .loop .starts)
-room c =
-    let s = c .before .before .before .before .before .before .before .before .before .before in
-    let l = c .before .before .before .before .before .loop .inv .starts-long in
-    let z = length-set (s .args .starts .now) 0 0 in
-    let h = s .pre .1 .1 .0 in
-    let k = s .pre .1 .1 .1 .1 in
-    let t = c .before .before .before .before .loop-test .taken in
-    omega arith
-
--- src/options.rt:104:9
-slice-write-starts-2 : tie.Need-slice-write-starts-2 Inv-loop μ-loop
-slice-write-starts-2 c = room c
-
--- src/options.rt:101:5
+-- src/lib.rt:129:5
 loop-less : tie.Need-loop-less Inv-loop μ-loop
-loop-less c = let t = c .before .before .before .before .loop-test .taken in omega arith
+loop-less c = let t = c .before .before .before .before .before .before .before .before .loop-test .taken in omega arith
 
--- src/options.rt:101:5
+-- src/lib.rt:129:5
 loop-again : tie.Need-loop-again Inv-loop μ-loop
 loop-again c =
-    let s = c .before .before .before .before .before .before .before .before .before .before in
-    let l = c .before .before .before .before .before .loop in
-    let t = c .before .before .before .before .loop-test .taken in
-    let g = c .before .before .list-at in
+    let s = c .before .before .before .before .before .before .before .before .before .before .before .before .before .before .before .before .before in
+    let l = c .before .before .before .before .before .before .before .before .before .loop in
+    let t = c .before .before .before .before .before .before .before .before .loop-test .taken in
+    let g = c .before .before .before .before .before .before .list-at in
+    let w = c .before .before .put-start2 in
     let f = s .pre .0 .few in
+    let d = s .pre .1 .1 .0 in
+    let r = s .pre .1 .1 .1 in
+    let o = l .inv .long in
+    let k = c .before .before .before .before .before .before .before .before .before .before .before .before .put-start .ensures .long in
     let m = at-most (bookOf (s .args .book .now)) (s .args .direction .now) (l .i + 1) (s .args .t .phrases) in
     let a = l .inv .few in
     let n = g .ensures .counted in
     record {
       inside = omega arith;
-      options-long = g .ensures .long ∙ l .inv .options-long;
-      starts-long = length-set (l .starts) (l .i + 1) (g .result) ∙ l .inv .starts-long;
+      long = w .ensures .long ∙ g .ensures .long ∙ l .inv .long;
       few = omega arith;
-      filled = filled-more (bookOf (s .args .book .now)) (s .args .direction .now) (l .inv .filled) (rw (s .pre .0 .counted) at (g .ensures)) (room c);
+      filled = filled-more (bookOf (s .args .book .now)) (s .args .direction .now) (l .inv .filled) (omega arith) (omega arith) (rw (s .pre .0 .counted) at (g .ensures)) (w .ensures);
     }
 
--- src/options.rt:84:1
+-- src/lib.rt:113:1
 same-length : tie.Need-same-length Inv-loop μ-loop
-same-length c = c .before .loop .inv .options-long
+same-length c = c .before .loop .inv .long ∙ c .before .before .before .before .put-start .ensures .long
 
--- src/options.rt:84:1
-same-length-2 : tie.Need-same-length-2 Inv-loop μ-loop
-same-length-2 c = c .before .loop .inv .starts-long ∙ length-set (c .before .before .before .before .before .before .args .starts .now) 0 0
-
--- src/options.rt:84:1
+-- src/lib.rt:113:1
 returns : tie.Need-returns Inv-loop μ-loop
 unfolding wordCount
 returns c =
-    let s = c .before .before .before .before .before .before in
+    let s = c .before .before .before .before .before .before .before .before .before in
     let l = c .before .loop in
     let i = l .inv .inside in
     let t = c .loop-test .left in
+    let d = s .pre .1 .1 .0 in
+    let r = s .pre .1 .1 .1 in
+    let a = l .inv .few in
+    let o = l .inv .long in
+    let k = c .before .before .before .before .put-start .ensures .long in
     let z : l .i ≡ length (s .args .direction .now) = omega arith in
-    options-are (bookOf (s .args .book .now)) (s .args .direction .now) (rw z at (l .inv .filled))
+    options-are (bookOf (s .args .book .now)) (s .args .direction .now) (rw z at (l .inv .filled)) (omega arith)
 
 pub list-options-spec : {M : Type 1} → statement M
 list-options-spec =
@@ -127,15 +130,13 @@ list-options-spec =
     (tie.spec
     Inv-loop
     μ-loop
-    slice-write-starts
+    put-start-requires
     loop-holds
     add-list-at
     list-at-requires
     add-i
-    mul-starts
-    slice-write-starts-2
+    put-start-requires-2
     loop-less
     loop-again
     same-length
-    same-length-2
     returns)

@@ -3,7 +3,6 @@ use borrow.Author.Needs.{needs}
 use native.Mathlib.Omega.{arith}
 use mir.Facts.{toZ-ofZ}
 use Rattle.plain.proofs.Whole.{refused-core}
-use borrow.Author.Needs.{needs}
 use Rattle.plain.proofs.decode_plain.Statement.{statement}
 use Rattle.plain.proofs.decode_plain.Tie as tie
 use Rattle.plain.proofs.decode_plain.Reads as reads
@@ -12,81 +11,77 @@ use Rattle.decoder.proofs.decode.decode_with.Reads as decode-with-reads
 use Rattle.decoder.proofs.decode.refused.Reads as refused-reads
 use Rattle.prepare.proofs.prepare.Reads as prepare-reads
 
--- src/plain.rt:25:45
+-- src/lib.rt:27:9
 slice-aggregate-prepare : tie.Need-slice-aggregate-prepare
 slice-aggregate-prepare c = search needs
 
--- src/plain.rt:25:57
+-- src/lib.rt:28:9
 slice-aggregate-prepare-2 : tie.Need-slice-aggregate-prepare-2
 slice-aggregate-prepare-2 c = search needs
 
--- src/plain.rt:25:69
+-- src/lib.rt:29:9
 slice-aggregate-prepare-3 : tie.Need-slice-aggregate-prepare-3
 slice-aggregate-prepare-3 c = search needs
 
--- src/plain.rt:25:81
+-- src/lib.rt:30:9
 slice-aggregate-prepare-4 : tie.Need-slice-aggregate-prepare-4
 slice-aggregate-prepare-4 c = search needs
 
--- src/plain.rt:25:11
+-- src/lib.rt:24:11
 prepare-requires : tie.Need-prepare-requires
 prepare-requires c κs = search needs
 
--- src/plain.rt:26:22
+-- src/lib.rt:32:22
 enum-known-task : tie.Need-enum-known-task
 enum-known-task c = search needs
 
--- src/plain.rt:31:50
+-- src/lib.rt:37:17
 slice-aggregate-decode-with : tie.Need-slice-aggregate-decode-with
 slice-aggregate-decode-with c = search needs
 
--- src/plain.rt:31:60
+-- src/lib.rt:38:17
 slice-aggregate-decode-with-2 : tie.Need-slice-aggregate-decode-with-2
 slice-aggregate-decode-with-2 c = search needs
 
--- src/plain.rt:31:68
+-- src/lib.rt:39:17
 slice-aggregate-decode-with-3 : tie.Need-slice-aggregate-decode-with-3
 slice-aggregate-decode-with-3 c = search needs
 
--- src/plain.rt:31:76
+-- src/lib.rt:40:17
 slice-aggregate-decode-with-4 : tie.Need-slice-aggregate-decode-with-4
 slice-aggregate-decode-with-4 c = search needs
 
--- src/plain.rt:31:84
+-- src/lib.rt:41:17
 slice-aggregate-decode-with-5 : tie.Need-slice-aggregate-decode-with-5
 slice-aggregate-decode-with-5 c = search needs
 
--- src/plain.rt:31:98
-slice-aggregate-decode-with-6 : tie.Need-slice-aggregate-decode-with-6
-slice-aggregate-decode-with-6 c = search needs
-
--- src/plain.rt:31:13
+-- src/lib.rt:34:13
 decode-with-requires : tie.Need-decode-with-requires
-decode-with-requires c κs = let s = rw (c .before .before .before .before .before .before .before .before .before .task .given .1) at (c .before .before .before .before .before .before .before .before .before .before .before .before .before .before .before .prepare .ensures) in (s .prepared, ((s .entries-at, s .entries-room), (omega arith, omega arith)))
+decode-with-requires c κs = let s = rw (c .before .before .before .before .before .before .before .before .task .given .1) at (c .before .before .before .before .before .before .before .before .before .before .before .before .before .before .prepare .ensures) in (s .prepared, ((s .entries-at, s .entries-room), omega arith))
 
--- src/plain.rt:33:24
+-- src/lib.rt:48:24
 enum-known-refusal : tie.Need-enum-known-refusal
 enum-known-refusal c = search needs
 
--- src/plain.rt:33:36
+-- src/lib.rt:48:36
 refused-requires : tie.Need-refused-requires
 refused-requires c κs = search needs
 
--- src/plain.rt:9:1
+-- src/lib.rt:9:1
 same-length : tie.Need-same-length
 same-length c = search needs
 
--- src/plain.rt:9:1
+-- src/lib.rt:9:1
 same-length-2 : tie.Need-same-length-2
 same-length-2 c = search needs
 
--- src/plain.rt:9:1
+-- src/lib.rt:9:1
 returns : tie.Need-returns
-returns c = rw (toZ-ofZ (c .before .before .before .before .before .before .before .before .before .before .before .before .before .before .before .before .before .before .before .before .before .before .before .before .before .before .before .before .fits .width)) at (c .before .before .before .before .before .decode-with .ensures)
+returns c = rw (toZ-ofZ (c .before .before .before .before .before .before .before .before .before .before .before .before .before .before .before .before .before .before .before .before .before .before .before .before .before .before .fits .width)) at (c .before .before .before .before .decode-with .ensures)
 
--- src/plain.rt:9:1
+-- src/lib.rt:9:1
 returns-2 : tie.Need-returns-2
-returns-2 c = let s = c .before .before .before .before .before .before .before .before .before .before .before .before .before .before .before in refused-core _ _ _ _ _ _ _ (rw (c .before .before .refusal .given .1) at (c .before .before .before .before .before .before .before .before .prepare .ensures)) (c .refused .ensures)
+returns-2 c = refused-core _ _ _ _ _ _ _ (rw (c .before .before .refusal .given .1) at (c .before .before .before .before .before .before .before .before .prepare .ensures)) (c .refused .ensures)
 
 pub decode-plain-spec : {M : Type 1} → statement M
 decode-plain-spec =
@@ -103,7 +98,6 @@ decode-plain-spec =
     slice-aggregate-decode-with-3
     slice-aggregate-decode-with-4
     slice-aggregate-decode-with-5
-    slice-aggregate-decode-with-6
     decode-with-requires
     enum-known-refusal
     refused-requires
