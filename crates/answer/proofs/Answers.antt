@@ -48,7 +48,7 @@ below-end options i n o a b h = by (ℕ-discrete i n)
     by (yes e) = let c : o < startAt options i = rw e b in absurd (omega arith)
     by (no q) = omega arith
 
-module _ {loaded : List ℤ} {direction entries options : List ℕ} {t : Task} (C : Choices loaded direction entries options t)
+module _ {loaded : List ℤ} {direction : List ℕ} {index : List ℤ} {options : List ℕ} {t : Task} (C : Choices loaded direction index options t)
     {o : ℕ} (ho : o < length (fittingSteps (bookOf loaded) direction)) where
   pub option-to : o < startAt options (t .n)
   option-to = let e = C .options-of .ends in let n = C .n-is in rw n (omega arith)
@@ -67,7 +67,7 @@ module _ {loaded : List ℤ} {direction entries options : List ℕ} {t : Task} (
     option-entry =
         let e = C .options-of .ends in
         let b = C .options-of .entries-in o (omega arith) in
-        let m = C .phrases-are in
+        let m = C .entries-at .counted in
         let f = b .0 in
         let l = b .1 in
         (omega arith, omega arith)
@@ -183,7 +183,7 @@ module _ {book : Book} {direction : List ℕ} {st : List ℤ} {k : ℕ} {q : Hyp
         ∙ way-is (optionAt book direction) out (getD (E .list) k nobody .steps) (omega arith) (λ i g. W .step-is i (omega arith)) ∙ steps-same
 
 -- each of the steps has an entry of the book
-module _ {loaded : List ℤ} {direction entries options : List ℕ} {t : Task} (C : Choices loaded direction entries options t) where
+module _ {loaded : List ℤ} {direction : List ℕ} {index : List ℤ} {options : List ℕ} {t : Task} (C : Choices loaded direction index options t) where
   pub step-entry : (plain : Plain) (out : List ℕ) (d : ℕ) → (plain .count ≡ d) × (stepsOf plain ≡ map (optionAt (bookOf loaded) direction) (take d out))
       → ((i : ℕ) → i < d → getD out i 0 < length (fittingSteps (bookOf loaded) direction))
       → (i : ℕ) → i < plain .count → (1 ≤ stepIn plain i .entry) × (stepIn plain i .entry ≤ t .phrases)
@@ -192,7 +192,7 @@ module _ {loaded : List ℤ} {direction entries options : List ℕ} {t : Task} (
       let e : f (getD out i 0) ≡ stepIn plain i =
       sym (sym (step-at plain (plain .count) i (f 0) h) ∙ ap (λ (xs : List Step). getD xs i (f 0)) s ∙ List·getD-map f (take d out) i 0 ∙ ap f (getD-take d out i 0 (omega arith))) in
       let g = fits-facts (bookOf loaded) direction (f (getD out i 0)) (listed-fits (bookOf loaded) direction (f (getD out i 0)) (getD-mem (fittingSteps (bookOf loaded) direction) (getD out i 0) noStep (inside i (omega arith)))) in
-      let m = C .phrases-are in
+      let m = C .entries-at .counted in
       (subst (λ (x : Step). 1 ≤ x .entry) e (g .entry-from), (let z : stepIn plain i .entry ≤ length (bookOf loaded .entries) = subst (λ (x : Step). x .entry ≤ length (bookOf loaded .entries)) e (g .entry-to) in omega arith))
 
 -- what is read off the store and written down is what the state says

@@ -46,18 +46,18 @@ fn position_of(options: &[u16], n: usize, o: usize) -> usize
 fn step_of(
     book: &[i32],
     direction: &[u16],
-    entries: &[usize],
+    index: &[i32],
     options: &[u16],
     t: Task,
     o: usize,
 ) -> Step
-    requires { ⌜ Choices (now book) (now direction) (now entries) (now options) t ⌝ }
+    requires { ⌜ Choices (now book) (now direction) (now index) (now options) t ⌝ }
     requires { ⌜ o < length (fittingSteps (bookOf (now book)) (now direction)) ⌝ }
     ensures { λ r. ⌜ r ≡ optionAt (bookOf (now (book .entry))) (now (direction .entry)) o ⌝ }
 {
     let first = position_of(options, t.n, o) + 1;
     let entry = options::option_at(options, o);
-    let p = derivation::places::phrase_at(book, entries, t.phrases, entry as usize);
+    let p = derivation::places::phrase_at(book, index, t.phrases, entry as usize);
     Step {
         first: first as u16,
         last: (first + p.long - 1) as u16,
@@ -82,13 +82,13 @@ fn copy_words(book: &[i32], p: Phrase, words: &mut [u16])
 fn steps_of(
     book: &[i32],
     direction: &[u16],
-    entries: &[usize],
+    index: &[i32],
     options: &[u16],
     t: Task,
     way: &[usize],
     d: usize,
 ) -> Plain
-    requires { ⌜ Choices (now book) (now direction) (now entries) (now options) t ⌝ }
+    requires { ⌜ Choices (now book) (now direction) (now index) (now options) t ⌝ }
     requires { ⌜ (d ≤ 32) × (d ≤ length (now way)) ⌝ }
     requires { ⌜ ((k : ℕ) → k < d → getD (now way) k 0 < length (fittingSteps (bookOf (now book)) (now direction))) ⌝ }
     ensures { λ r. ⌜ (r .count ≡ d) × (stepsOf r ≡ map (optionAt (bookOf (now (book .entry))) (now (direction .entry))) (take d (now (way .entry)))) ⌝ }
@@ -96,7 +96,7 @@ fn steps_of(
     let mut plain = records::empty();
     let mut k = 0;
     while k < d {
-        plain = records::with_step(plain, step_of(book, direction, entries, options, t, way[k]));
+        plain = records::with_step(plain, step_of(book, direction, index, options, t, way[k]));
         k += 1;
     }
     plain
@@ -106,12 +106,12 @@ fn steps_of(
 // Document 01's form: the rest of the word list, from the current count, is lent on to the copier of one entry's words.
 fn write_words(
     book: &[i32],
-    entries: &[usize],
+    index: &[i32],
     phrases: usize,
     plain: Plain,
     words: &mut [u16],
 ) -> usize
-    requires { ⌜ EntriesAt (now book) (now entries) phrases × (phrases ≤ length (now entries)) ⌝ }
+    requires { ⌜ EntriesAt (now book) (now index) phrases ⌝ }
     requires { ⌜ (plain .count ≤ 32) × (8 * plain .count ≤ length (now words)) ⌝ }
     requires { ⌜ ((k : ℕ) → k < plain .count → (1 ≤ stepIn plain k .entry) × (stepIn plain k .entry ≤ phrases)) ⌝ }
     ensures { λ r. ⌜ r ≡ length (targetWords (bookOf (now (book .entry))) (stepsOf plain)) ⌝ }
@@ -121,7 +121,7 @@ fn write_words(
     let mut k = 0;
     while k < plain.count {
         let step = records::step_in(plain, k);
-        let p = derivation::places::phrase_at(book, entries, phrases, step.entry as usize);
+        let p = derivation::places::phrase_at(book, index, phrases, step.entry as usize);
         copy_words(book, p, &mut words[count..]);
         count += p.count;
         k += 1;
@@ -141,20 +141,20 @@ pub fn trace(
     best: Best,
     book: &[i32],
     direction: &[u16],
-    entries: &[usize],
+    index: &[i32],
     options: &[u16],
     t: Task,
     words: &mut [u16],
 ) -> Core
-    requires { ⌜ Choices (now book) (now direction) (now entries) (now options) t ⌝ }
+    requires { ⌜ Choices (now book) (now direction) (now index) (now options) t ⌝ }
     requires { ⌜ Ended (bookOf (now book)) (now direction) (now store) (best .at) ⌝ }
     requires { ⌜ 8 * wordCount (now direction) ≤ length (now words) ⌝ }
     ensures { λ r. ⌜ ((q : Hyp) → Ends (bookOf (now (book .entry))) (now (direction .entry)) (now (store .entry)) (best .at) q → Told (bookOf (now (book .entry))) q (best .states) (now (words .entry)) (now (words .exit)) r) ⌝ }
 {
     let mut way = [0usize; 32];
     let d = states::paths::path(store, best.at, &mut way);
-    let plain = steps_of(book, direction, entries, options, t, &way, d);
-    let many = write_words(book, entries, t.phrases, plain, words);
+    let plain = steps_of(book, direction, index, options, t, &way, d);
+    let many = write_words(book, index, t.phrases, plain, words);
     let x = store::places::place_at(store, best.at);
     Core {
         plain,

@@ -165,18 +165,16 @@ module _ (loaded : List ℤ) (direction : List ℕ) (width : ℤ) (room : ℕ) (
 
 -- ════ the lists of the search are ready
 
-pub made-searchable : {loaded : List ℤ} {direction entries : List ℕ} {grams : List ℤ} {heads links options : List ℕ} {t : Task} → Prepared loaded direction grams heads links t
-    → EntriesAt loaded entries (t .phrases) → t .phrases ≤ length entries → OptionsOf (bookOf loaded) direction options → length options < 2 ^ 63
-    → Searchable loaded direction entries grams heads links options t
-made-searchable {direction} R at many of small =
+pub made-searchable : {loaded : List ℤ} {direction : List ℕ} {index : List ℤ} {options : List ℕ} {t : Task} → Prepared loaded direction index t
+    → OptionsOf (bookOf loaded) direction options → length options < 2 ^ 63
+    → Searchable loaded direction index options t
+made-searchable {direction} R of small =
     record {
       prepared = R;
       choices = record {
         n-is = R .n-is;
         few = direction-to direction (R .directed);
-        phrases-are = R .phrases-are;
-        entries-at = at;
-        entries-room = many;
+        entries-at = R .entries-at;
         options-of = of;
         options-small = small;
       };

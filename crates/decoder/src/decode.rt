@@ -49,12 +49,12 @@ fn conclude(
     count: usize,
     book: &[i32],
     direction: &[u16],
-    entries: &[usize],
+    index: &[i32],
     options: &[u16],
     job: Job,
     words: &mut [u16],
 ) -> Core
-    requires { ⌜ Choices (now book) (now direction) (now entries) (now options) (job .task) ⌝ }
+    requires { ⌜ Choices (now book) (now direction) (now index) (now options) (job .task) ⌝ }
     requires { ⌜ Starting (bookOf (now book)) (now direction) (job .width) (wordCount (now direction)) (now store) count ⌝ }
     requires { ⌜ 8 * wordCount (now direction) ≤ length (now words) ⌝ }
     ensures { λ r. ⌜ Concluded (answer (bookOf (now (book .entry))) (now (direction .entry)) (job .width)) (bookOf (now (book .entry))) (job .width) (length (entered (bookOf (now (book .entry))) (now (direction .entry)) (job .width))) (now (words .entry)) (now (words .exit)) r ⌝ }
@@ -75,7 +75,7 @@ fn conclude(
                 best,
                 book,
                 direction,
-                entries,
+                index,
                 options,
                 job.task,
                 words,
@@ -92,15 +92,12 @@ fn search_for_best(
     store: &mut [i64],
     book: &[i32],
     direction: &[u16],
-    entries: &[usize],
-    grams: &[i32],
-    heads: &[u16],
-    links: &[u16],
+    index: &[i32],
     options: &[u16],
     job: Job,
     words: &mut [u16],
 ) -> Core
-    requires { ⌜ Searchable (now book) (now direction) (now entries) (now grams) (now heads) (now links) (now options) (job .task) ⌝ }
+    requires { ⌜ Searchable (now book) (now direction) (now index) (now options) (job .task) ⌝ }
     requires { ⌜ 8 * wordCount (now direction) ≤ length (now words) ⌝ }
     ensures { λ r. ⌜ Searched (bookOf (now (book .entry))) (now (direction .entry)) (job .width) (length (now (store .entry)) / 8) (now (words .entry)) (now (words .exit)) r ⌝ }
     ensures { λ r. ⌜ now (store .exit) ≡ replicate (length (now (store .entry))) (pos 0) ⌝ }
@@ -110,10 +107,7 @@ fn search_for_best(
         store,
         book,
         direction,
-        entries,
-        grams,
-        heads,
-        links,
+        index,
         options,
         job,
     ) {
@@ -121,7 +115,7 @@ fn search_for_best(
             clearing::clear(store);
             refused(Refusal::StoreTooSmall)
         }
-        Grown::On(count) => conclude(store, count, book, direction, entries, options, job, words),
+        Grown::On(count) => conclude(store, count, book, direction, index, options, job, words),
     }
 }
 
@@ -137,18 +131,14 @@ fn has_room(n: usize, room: usize, words: usize) -> bool
 pub fn decode_with(
     book: &[i32],
     direction: &[u16],
-    entries: &[usize],
-    grams: &[i32],
-    heads: &[u16],
-    links: &[u16],
+    index: &[i32],
     options: &mut [u16],
     job: Job,
     room: usize,
     words: &mut [u16],
     store: &mut [i64],
 ) -> Core
-    requires { ⌜ Prepared (now book) (now direction) (now grams) (now heads) (now links) (job .task) ⌝ }
-    requires { ⌜ EntriesAt (now book) (now entries) (job .task .phrases) × (job .task .phrases ≤ length (now entries)) ⌝ }
+    requires { ⌜ Prepared (now book) (now direction) (now index) (job .task) ⌝ }
     requires { ⌜ optionsFrom + 32 * 4096 ≤ length (now options) ⌝ }
     ensures { λ r. ⌜ CoreDecodes (now (book .entry)) (now (direction .entry)) (job .width) room (now (words .entry)) (now (words .exit)) (now (store .entry)) (now (store .exit)) r ⌝ }
 {
@@ -160,15 +150,12 @@ pub fn decode_with(
     if !has_room(t.n, room, words.len()) {
         return refused(Refusal::StepsOrWordsTooShort);
     }
-    options::list_options(book, entries, t, direction, options);
+    options::list_options(book, index, t, direction, options);
     search_for_best(
         store,
         book,
         direction,
-        entries,
-        grams,
-        heads,
-        links,
+        index,
         options,
         job,
         words,

@@ -34,7 +34,7 @@ use Rattle.store.specs.declared.Place.{Place}
 use Rattle.extending.specs.Extend.{nextPlace, CanPlace}
 use Rattle.extending.specs.declared.Turn.{Turn}
 
-module _ {loaded : List ℤ} {direction : List ℕ} {grams : List ℤ} {heads links : List ℕ} {t : Task} (R : Prepared loaded direction grams heads links t)
+module _ {loaded : List ℤ} {direction : List ℕ} {index : List ℤ} {t : Task} (R : Prepared loaded direction index t)
     (turn : Turn) {p : Phrase} (of : PhraseOf loaded (entryAt (bookOf loaded) (turn .entry)) p) (fine : Fine (wordCount direction) (turn .spot .source .place .state)) where
   abbrev x : Place
   x = turn .spot .source .place
@@ -93,14 +93,14 @@ module _ {loaded : List ℤ} {direction : List ℕ} {grams : List ℤ} {heads li
 
     -- the state, with the step's last position
     abbrev after : State
-    after = nextState grams t p (entryAt book k) first (step .last) (x .state)
+    after = nextState index t p (entryAt book k) first (step .last) (x .state)
 
-    state-is : nextState grams t p (entryAt book k) first (first + p .long - 1) (x .state) ≡ after
-    state-is = ap (λ (l : ℕ). nextState grams t p (entryAt book k) first l (x .state)) (sym last-is)
+    state-is : nextState index t p (entryAt book k) first (first + p .long - 1) (x .state) ≡ after
+    state-is = ap (λ (l : ℕ). nextState index t p (entryAt book k) first l (x .state)) (sym last-is)
 
     key-is : keyOf n after ≡ nextKey book (keyOf n (x .state)) step
     unfolding keyOf
-    key-is = next-key book grams t (R .scores-are) step p n (x .state) (facts .first-from) (facts .first-to) last-to (fine .covered-in) free
+    key-is = next-key book index t (R .scores-are) step p n (x .state) (facts .first-from) (facts .first-to) last-to (fine .covered-in) free
 
     more : wordsCovered (nextKey book (keyOf n (x .state)) step) ≡ wordsCovered (keyOf n (x .state)) + p .long
     unfolding wordsCovered nextKey keyOf
@@ -118,13 +118,13 @@ module _ {loaded : List ℤ} {direction : List ℕ} {grams : List ℤ} {heads li
     after-fine = record { few = fine .few; covered-in = small; r-in = (let l = last-to in let N = fine .few in omega arith) }
 
     pub next-place : optionAt book direction (turn .option) ≡ step → x .size ≡ wordsCovered (keyOf n (x .state))
-        → NextPlace book direction x (turn .spot .source .at) (turn .option) (nextPlace grams t p (entryAt book k) turn)
+        → NextPlace book direction x (turn .spot .source .at) (turn .option) (nextPlace index t p (entryAt book k) turn)
     unfolding nextPlace
     next-place is size =
-        let key : keyOf n (nextState grams t p (entryAt book k) first (first + p .long - 1) (x .state)) ≡ nextKey book (keyOf n (x .state)) step = ap (keyOf n) state-is ∙ key-is in
+        let key : keyOf n (nextState index t p (entryAt book k) first (first + p .long - 1) (x .state)) ≡ nextKey book (keyOf n (x .state)) step = ap (keyOf n) state-is ∙ key-is in
         record {
           key-is = key ∙ ap (nextKey book (keyOf n (x .state))) (sym is);
-          score-is = ap (λ (s : State). s .score) state-is ∙ next-score book grams t (R .scores-are) step p n (x .state) (of .g-is) (R .eta-is)
+          score-is = ap (λ (s : State). s .score) state-is ∙ next-score book index t (R .scores-are) step p n (x .state) (of .g-is) (R .eta-is)
               ∙ ap (λ (s : Step). x .state .score +ℤ gain book (keyOf n (x .state)) s) (sym is);
           size-is = ap (λ (m : ℕ). m + p .long) size ∙ sym more ∙ ap wordsCovered (sym key);
           fine = subst (Fine n) (sym state-is) after-fine;

@@ -42,8 +42,8 @@ use Rattle.extending.specs.declared.Turn.{Turn}
 use Rattle.options.specs.Options.{optionsFrom, startAt, optionIn}
 use Rattle.extending.proofs.Placed.{can-place, next-place}
 
-module _ {loaded : List ℤ} {direction entries : List ℕ} {grams : List ℤ} {heads links : List ℕ} {job : Job} {turn : Turn}
-    (T : TurnOf loaded direction entries grams heads links job turn) {p : Phrase} (of : PhraseOf loaded (entryAt (bookOf loaded) (turn .entry)) p) where
+module _ {loaded : List ℤ} {direction : List ℕ} {index : List ℤ} {job : Job} {turn : Turn}
+    (T : TurnOf loaded direction index job turn) {p : Phrase} (of : PhraseOf loaded (entryAt (bookOf loaded) (turn .entry)) p) where
   abbrev book : Book
   book = bookOf loaded
 
@@ -114,11 +114,11 @@ module _ {loaded : List ℤ} {direction entries : List ℕ} {grams : List ℤ} {
         can-place (T .prepared) turn of (T .spot-of .chosen .shown .fine) fit free (T .near)
         (within-mono (omega arith) (chosen-score book direction (job .width) (loaded-ranged loaded (T .prepared .passed)) (T .spot-of .chosen))) s
 
-    pub turn-next : NextPlace book direction x j o (nextPlace grams (job .task) p (entryAt book k) turn)
+    pub turn-next : NextPlace book direction x j o (nextPlace index (job .task) p (entryAt book k) turn)
     turn-next = next-place (T .prepared) turn of (T .spot-of .chosen .shown .fine) fit free (T .option-is) (T .spot-of .chosen .shown .size-is)
 
     -- each answer of add_place goes one option further
-    pub turn-grows : (y : Place) → y ≡ nextPlace grams (job .task) p (entryAt book k) turn → {st st′ : List ℤ} {count : ℕ} → Growing book direction (job .width) (x .size) j o st count
+    pub turn-grows : (y : Place) → y ≡ nextPlace index (job .task) p (entryAt book k) turn → {st st′ : List ℤ} {count : ℕ} → Growing book direction (job .width) (x .size) j o st count
         → (r : Grown) → Grows st st′ count y r → Grew book direction (job .width) (x .size) j (o + 1) st′ r
     turn-grows y e {st} {st′} {count} G r g =
         rw (g .is) (by (g .answer)
@@ -130,7 +130,7 @@ module _ {loaded : List ℤ} {direction entries : List ℕ} {grams : List ℤ} {
         by Appended u = u
         by Full u = u
 
-    pub turn-storable : (y : Place) → y ≡ nextPlace grams (job .task) p (entryAt book k) turn → Storable y
+    pub turn-storable : (y : Place) → y ≡ nextPlace index (job .task) p (entryAt book k) turn → Storable y
     turn-storable y e = subst Storable (sym e) (next-storable book direction (job .width) turn-next (T .spot-of .place-small) (T .option-small))
 
 -- several options that may not extend the state
@@ -148,8 +148,8 @@ module _ (bk : Book) (direction : List ℕ) (width : ℤ) (i j : ℕ) (x : Place
       (skipped bk direction width A (omega arith) F (never (from + many) (omega arith) (omega arith)))
 
 -- the options of a position, from where they begin to where the next position's begin
-module _ {loaded : List ℤ} {direction entries : List ℕ} {grams : List ℤ} {heads links options : List ℕ} {job : Job} {spot : Spot}
-    (R : Searchable loaded direction entries grams heads links options (job .task)) (S : SpotOf loaded direction job spot) where
+module _ {loaded : List ℤ} {direction : List ℕ} {index : List ℤ} {options : List ℕ} {job : Job} {spot : Spot}
+    (R : Searchable loaded direction index options (job .task)) (S : SpotOf loaded direction job spot) where
   abbrev book′ : Book
   book′ = bookOf loaded
 
@@ -202,16 +202,14 @@ module _ {loaded : List ℤ} {direction entries : List ℕ} {grams : List ℤ} {
       listed-fits book′ direction _ (subst (λ (s : Step). List·Memᴰ s (fittingSteps book′ direction)) (each o a b) (getD-mem (fittingSteps book′ direction) o noStep (omega arith)))
 
   pub spot-turn : jumpFrom (x′ .state .r) first′ ≤ job .task .limit → (o : ℕ) → from ≤ o → o < to
-      → TurnOf loaded direction entries grams heads links job (record { spot = spot; option = o; entry = optionIn options o })
+      → TurnOf loaded direction index job (record { spot = spot; option = o; entry = optionIn options o })
   spot-turn near o a b =
       let e = to-end in
       let l = R .choices .options-of .ends in
-      let m = R .prepared .phrases-are in
+      let m = R .prepared .entries-at .counted in
       let q = R .choices .options-of .entries-in o (omega arith) in
       record {
         prepared = R .prepared;
-        entries-at = R .choices .entries-at;
-        entries-room = R .choices .entries-room;
         spot-of = S;
         near = near;
         option-in = omega arith;
@@ -261,8 +259,8 @@ module _ {loaded : List ℤ} {direction entries : List ℕ} {grams : List ℤ} {
           rw (q, and-false) refl
 
 -- a position, with the run that was read for it
-module _ {loaded : List ℤ} {direction entries : List ℕ} {grams : List ℤ} {heads links options : List ℕ} {job : Job} {source : Source}
-    (R : Searchable loaded direction entries grams heads links options (job .task)) where
+module _ {loaded : List ℤ} {direction : List ℕ} {index : List ℤ} {options : List ℕ} {job : Job} {source : Source}
+    (R : Searchable loaded direction index options (job .task)) where
   pub spot-at : Chosen (bookOf loaded) direction (job .width) (source .place .size) (source .at) (source .place) → source .at < 2 ^ 63
       → (runs : List ℕ) → RunsFrom runs (job .task .n) (source .place .state .covered) 0 → (i : ℕ) → i < job .task .n
       → SpotOf loaded direction job (record { source = source; first = i + 1; run = getD runs i 0 })
@@ -278,8 +276,8 @@ module _ {loaded : List ℤ} {direction entries : List ℕ} {grams : List ℤ} {
       }
 
 -- no option is done before the first position (`begins`), and all of them after the last
-pub all-done : {loaded : List ℤ} {direction entries : List ℕ} {grams : List ℤ} {heads links options : List ℕ} {t : Task}
-    → Searchable loaded direction entries grams heads links options t → (i : ℕ) → i ≤ t .n → t .n ≤ i → length (fittingSteps (bookOf loaded) direction) ≤ startAt options i
+pub all-done : {loaded : List ℤ} {direction : List ℕ} {index : List ℤ} {options : List ℕ} {t : Task}
+    → Searchable loaded direction index options t → (i : ℕ) → i ≤ t .n → t .n ≤ i → length (fittingSteps (bookOf loaded) direction) ≤ startAt options i
 all-done {direction} R i a b =
     let n = R .prepared .n-is in
     let e : i ≡ wordCount direction = omega arith in

@@ -28,10 +28,10 @@ use Rattle.states.specs.declared.Grown.the-variants.{On, Overflow}
 
 -- the place after a turn by the entry e, over its positions
 unfoldable pub nextPlace : List ℤ → Task → Phrase → Entry → Turn → Place
-nextPlace grams t p e turn =
+nextPlace index t p e turn =
     let spot = turn .spot in
     let x = spot .source .place in
-    record { state = nextState grams t p e (spot .first) (spot .first + p .long - 1) (x .state); size = x .size + p .long; parent = spot .source .at; option = turn .option }
+    record { state = nextState index t p e (spot .first) (spot .first + p .long - 1) (x .state); size = x .size + p .long; parent = spot .source .at; option = turn .option }
 
 -- the numbers are small enough for it
 pub record CanPlace (t : Task) (p : Phrase) (spot : Spot) : Type 0 where
@@ -55,19 +55,17 @@ pub record Grows (old new : List ℤ) (count : ℕ) (y : Place) (r : Grown) : Ty
 -- ════ the lists of a decode
 
 -- the entries' places and the steps that fit are those of this book and this direction
-pub record Choices (loaded : List ℤ) (direction entries options : List ℕ) (t : Task) : Type 0 where
+pub record Choices (loaded : List ℤ) (direction : List ℕ) (index : List ℤ) (options : List ℕ) (t : Task) : Type 0 where
   pub n-is : t .n ≡ wordCount direction
   pub few : wordCount direction ≤ 32
-  pub phrases-are : t .phrases ≡ length (bookOf loaded .entries)
-  pub entries-at : EntriesAt loaded entries (t .phrases)
-  pub entries-room : t .phrases ≤ length entries
+  pub entries-at : EntriesAt loaded index (t .phrases)
   pub options-of : OptionsOf (bookOf loaded) direction options
   pub options-small : length options < 2 ^ 63
 
 -- and so is the language model: all that a search reads is there
-pub record Searchable (loaded : List ℤ) (direction entries : List ℕ) (grams : List ℤ) (heads links options : List ℕ) (t : Task) : Type 0 where
-  pub prepared : Prepared loaded direction grams heads links t
-  pub choices : Choices loaded direction entries options t
+pub record Searchable (loaded : List ℤ) (direction : List ℕ) (index : List ℤ) (options : List ℕ) (t : Task) : Type 0 where
+  pub prepared : Prepared loaded direction index t
+  pub choices : Choices loaded direction index options t
 
 -- the spot is a position of the direction, and its source a state that is to be extended
 pub record SpotOf (loaded : List ℤ) (direction : List ℕ) (job : Job) (spot : Spot) : Type 0 where
@@ -78,10 +76,8 @@ pub record SpotOf (loaded : List ℤ) (direction : List ℕ) (job : Job) (spot :
   pub run-is : spot .run ≡ freeRun (drop (spot .first - 1) (bitsOf (wordCount direction) (spot .source .place .state .covered)))
 
 -- the turn's option is its entry at its spot, which is in reach
-pub record TurnOf (loaded : List ℤ) (direction entries : List ℕ) (grams : List ℤ) (heads links : List ℕ) (job : Job) (turn : Turn) : Type 0 where
-  pub prepared : Prepared loaded direction grams heads links (job .task)
-  pub entries-at : EntriesAt loaded entries (job .task .phrases)
-  pub entries-room : job .task .phrases ≤ length entries
+pub record TurnOf (loaded : List ℤ) (direction : List ℕ) (index : List ℤ) (job : Job) (turn : Turn) : Type 0 where
+  pub prepared : Prepared loaded direction index (job .task)
   pub spot-of : SpotOf loaded direction job (turn .spot)
   pub near : jumpFrom (turn .spot .source .place .state .r) (turn .spot .first) ≤ job .task .limit
   pub option-in : turn .option < length (fittingSteps (bookOf loaded) direction)

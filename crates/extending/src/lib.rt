@@ -43,26 +43,22 @@ pub struct Turn {
 // The place that the entry p leads to in this turn.
 fn next_place(
     book: &[i32],
-    grams: &[i32],
-    heads: &[u16],
-    links: &[u16],
+    index: &[i32],
     t: Task,
     p: Phrase,
     turn: Turn,
 ) -> Place
-    requires { ⌜ Model (now grams) (now heads) (now links) t ⌝ }
+    requires { ⌜ Model (now index) t ⌝ }
     requires { ⌜ Phrased (now book) p ⌝ }
     requires { ⌜ CanPlace t p (turn .spot) ⌝ }
-    ensures { λ y. ⌜ ((e : Entry) → PhraseOf (now (book .entry)) e p → y ≡ nextPlace (now (grams .entry)) t p e turn) ⌝ }
+    ensures { λ y. ⌜ ((e : Entry) → PhraseOf (now (book .entry)) e p → y ≡ nextPlace (now (index .entry)) t p e turn) ⌝ }
 {
     let spot = turn.spot;
     let x = spot.source.place;
     let last = spot.first + p.long - 1;
     let state = derivation::step::next_state(
         book,
-        grams,
-        heads,
-        links,
+        index,
         t,
         p,
         spot.first,
@@ -98,23 +94,20 @@ fn extend_option(
     count: usize,
     book: &[i32],
     direction: &[u16],
-    entries: &[usize],
-    grams: &[i32],
-    heads: &[u16],
-    links: &[u16],
+    index: &[i32],
     job: Job,
     turn: Turn,
 ) -> Grown
-    requires { ⌜ TurnOf (now book) (now direction) (now entries) (now grams) (now heads) (now links) job turn ⌝ }
+    requires { ⌜ TurnOf (now book) (now direction) (now index) job turn ⌝ }
     requires { ⌜ Growing (bookOf (now book)) (now direction) (job .width) (turn .spot .source .place .size) (turn .spot .source .at) (turn .option) (now store) count ⌝ }
     ensures { λ r. ⌜ Grew (bookOf (now (book .entry))) (now (direction .entry)) (job .width) (turn .spot .source .place .size) (turn .spot .source .at) (turn .option + 1) (now (store .exit)) r ⌝ }
 {
     let t = job.task;
-    let p = derivation::places::phrase_at(book, entries, t.phrases, turn.entry);
+    let p = derivation::places::phrase_at(book, index, t.phrases, turn.entry);
     if turn.spot.run < p.long {
         return Grown::On(count);
     }
-    let y = next_place(book, grams, heads, links, t, p, turn);
+    let y = next_place(book, index, t, p, turn);
     grow(store, count, y)
 }
 
@@ -124,15 +117,12 @@ fn extend_at(
     count: usize,
     book: &[i32],
     direction: &[u16],
-    entries: &[usize],
-    grams: &[i32],
-    heads: &[u16],
-    links: &[u16],
+    index: &[i32],
     options: &[u16],
     job: Job,
     spot: Spot,
 ) -> Grown
-    requires { ⌜ Searchable (now book) (now direction) (now entries) (now grams) (now heads) (now links) (now options) (job .task) ⌝ }
+    requires { ⌜ Searchable (now book) (now direction) (now index) (now options) (job .task) ⌝ }
     requires { ⌜ SpotOf (now book) (now direction) job spot × (jumpFrom (spot .source .place .state .r) (spot .first) ≤ job .task .limit) ⌝ }
     requires { ⌜ Growing (bookOf (now book)) (now direction) (job .width) (spot .source .place .size) (spot .source .at) (startAt (now options) (spot .first - 1)) (now store) count ⌝ }
     ensures { λ r. ⌜ Grew (bookOf (now (book .entry))) (now (direction .entry)) (job .width) (spot .source .place .size) (spot .source .at) (startAt (now (options .entry)) (spot .first)) (now (store .exit)) r ⌝ }
@@ -152,10 +142,7 @@ fn extend_at(
             c,
             book,
             direction,
-            entries,
-            grams,
-            heads,
-            links,
+            index,
             job,
             turn,
         ) else {
@@ -173,15 +160,12 @@ fn extend_from(
     count: usize,
     book: &[i32],
     direction: &[u16],
-    entries: &[usize],
-    grams: &[i32],
-    heads: &[u16],
-    links: &[u16],
+    index: &[i32],
     options: &[u16],
     job: Job,
     spot: Spot,
 ) -> Grown
-    requires { ⌜ Searchable (now book) (now direction) (now entries) (now grams) (now heads) (now links) (now options) (job .task) ⌝ }
+    requires { ⌜ Searchable (now book) (now direction) (now index) (now options) (job .task) ⌝ }
     requires { ⌜ SpotOf (now book) (now direction) job spot ⌝ }
     requires { ⌜ Growing (bookOf (now book)) (now direction) (job .width) (spot .source .place .size) (spot .source .at) (startAt (now options) (spot .first - 1)) (now store) count ⌝ }
     ensures { λ r. ⌜ Grew (bookOf (now (book .entry))) (now (direction .entry)) (job .width) (spot .source .place .size) (spot .source .at) (startAt (now (options .entry)) (spot .first)) (now (store .exit)) r ⌝ }
@@ -197,10 +181,7 @@ fn extend_from(
         count,
         book,
         direction,
-        entries,
-        grams,
-        heads,
-        links,
+        index,
         options,
         job,
         spot,
@@ -213,15 +194,12 @@ pub fn extend_all(
     count: usize,
     book: &[i32],
     direction: &[u16],
-    entries: &[usize],
-    grams: &[i32],
-    heads: &[u16],
-    links: &[u16],
+    index: &[i32],
     options: &[u16],
     job: Job,
     source: Source,
 ) -> Grown
-    requires { ⌜ Searchable (now book) (now direction) (now entries) (now grams) (now heads) (now links) (now options) (job .task) ⌝ }
+    requires { ⌜ Searchable (now book) (now direction) (now index) (now options) (job .task) ⌝ }
     requires { ⌜ Chosen (bookOf (now book)) (now direction) (job .width) (source .place .size) (source .at) (source .place) × (source .at < 2 ^ 63) ⌝ }
     requires { ⌜ Growing (bookOf (now book)) (now direction) (job .width) (source .place .size) (source .at) (0) (now store) count ⌝ }
     ensures { λ r. ⌜ Levelled (bookOf (now (book .entry))) (now (direction .entry)) (job .width) (source .place .size) (source .at + 1) (now (store .exit)) r ⌝ }
@@ -241,10 +219,7 @@ pub fn extend_all(
             c,
             book,
             direction,
-            entries,
-            grams,
-            heads,
-            links,
+            index,
             options,
             job,
             spot,

@@ -75,15 +75,14 @@ pub fn fits_at(book: &[i32], p: Phrase, direction: &[u16], first: usize, last: u
 // The entries that fit at the position `first`, in order, listed behind `from` options; how many options there are then.
 pub fn list_at(
     book: &[i32],
-    entries: &[usize],
+    index: &[i32],
     t: Task,
     direction: &[u16],
     first: usize,
     options: &mut [u16],
     from: usize,
 ) -> usize
-    requires { ⌜ EntriesAt (now book) (now entries) (t .phrases) ⌝ }
-    requires { ⌜ t .phrases ≤ length (now entries) ⌝ }
+    requires { ⌜ EntriesAt (now book) (now index) (t .phrases) ⌝ }
     requires { ⌜ (1 ≤ first) × (first ≤ 32) ⌝ }
     requires { ⌜ optionsFrom + (from + t .phrases) ≤ length (now options) ⌝ }
     ensures { λ r. ⌜ Listed (now (options .entry)) (now (options .exit)) from r (fittingAt (bookOf (now (book .entry))) (now (direction .entry)) first (t .phrases)) ⌝ }
@@ -91,7 +90,7 @@ pub fn list_at(
     let mut count = from;
     let mut k = 1;
     'entries: while k <= t.phrases {
-        let p = places::phrase_at(book, entries, t.phrases, k);
+        let p = places::phrase_at(book, index, t.phrases, k);
         k += 1;
         if direction.len() < first - 1 + p.long {
             continue 'entries;
@@ -112,13 +111,12 @@ pub fn list_at(
 // Every step that fits, by first position and then by entry, and where the options of each first position begin.
 pub fn list_options(
     book: &[i32],
-    entries: &[usize],
+    index: &[i32],
     t: Task,
     direction: &[u16],
     options: &mut [u16],
 )
-    requires { ⌜ EntriesAt (now book) (now entries) (t .phrases) ⌝ }
-    requires { ⌜ t .phrases ≤ length (now entries) ⌝ }
+    requires { ⌜ EntriesAt (now book) (now index) (t .phrases) ⌝ }
     requires { ⌜ length (now direction) ≤ 32 ⌝ }
     requires { ⌜ optionsFrom + 32 * 4096 ≤ length (now options) ⌝ }
     ensures { λ r. ⌜ OptionsOf (bookOf (now (book .entry))) (now (direction .entry)) (now (options .exit)) ⌝ }
@@ -127,7 +125,7 @@ pub fn list_options(
     let mut i = 0;
     put_start(options, 0, 0);
     while i < direction.len() {
-        count = list_at(book, entries, t, direction, i + 1, options, count);
+        count = list_at(book, index, t, direction, i + 1, options, count);
         i += 1;
         put_start(options, i, count);
     }

@@ -85,7 +85,7 @@ direction-few direction e =
     let b = h .1 in
     (omega arith, omega arith)
 
-module _ (loaded : List ℤ) (direction : List ℕ) (grams : List ℤ) (heads links : List ℕ) (t : Task) (P : Prepared loaded direction grams heads links t)
+module _ (loaded : List ℤ) (direction : List ℕ) (index : List ℤ) (t : Task) (P : Prepared loaded direction index t)
     (s : State) (step : Step) (R : Ready direction s) (fit : fits (bookOf loaded) direction step ≡ true) where
   abbrev book : Book
   book = bookOf loaded
@@ -147,22 +147,22 @@ module _ (loaded : List ℤ) (direction : List ℕ) (grams : List ℤ) (heads li
       unfolding mayExtend
       may = both-of (both-of fit free) (le-leb (jump (k .r) step) (book .limit) near)
 
-      covers-next : (p : Phrase) → nextState grams t p (entryAt book (step .entry)) (step .first) (step .last) s .covered < 2 ^ n
+      covers-next : (p : Phrase) → nextState index t p (entryAt book (step .entry)) (step .first) (step .last) s .covered < 2 ^ n
       unfolding nextState
       covers-next p = covers-in
 
       -- the code's next state is the notes'
       pub follows : (p : Phrase) → PhraseOf loaded (entryAt book (step .entry)) p
-          → Follows book direction s step (nextState grams t p (entryAt book (step .entry)) (step .first) (step .last) s)
+          → Follows book direction s step (nextState index t p (entryAt book (step .entry)) (step .first) (step .last) s)
       follows p q = record { may = may; key-is = key; score-is = score; ready = record { small = covers-next p; score-within = bound } }
         where
-          key : keyOf n (nextState grams t p (entryAt book (step .entry)) (step .first) (step .last) s) ≡ nextKey book k step
-          key = next-key book grams t (P .scores-are) step p n s (f .first-from) (f .first-to) last-inside (R .small) free
+          key : keyOf n (nextState index t p (entryAt book (step .entry)) (step .first) (step .last) s) ≡ nextKey book k step
+          key = next-key book index t (P .scores-are) step p n s (f .first-from) (f .first-to) last-inside (R .small) free
 
-          score : nextState grams t p (entryAt book (step .entry)) (step .first) (step .last) s .score ≡ s .score +ℤ gain book k step
-          score = next-score book grams t (P .scores-are) step p n s (q .g-is) (P .eta-is)
+          score : nextState index t p (entryAt book (step .entry)) (step .first) (step .last) s .score ≡ s .score +ℤ gain book k step
+          score = next-score book index t (P .scores-are) step p n s (q .g-is) (P .eta-is)
 
-          bound : Within (gainBound * wordsCovered (keyOf n (nextState grams t p (entryAt book (step .entry)) (step .first) (step .last) s))) (nextState grams t p (entryAt book (step .entry)) (step .first) (step .last) s .score)
+          bound : Within (gainBound * wordsCovered (keyOf n (nextState index t p (entryAt book (step .entry)) (step .first) (step .last) s))) (nextState index t p (entryAt book (step .entry)) (step .first) (step .last) s .score)
           bound =
               let e = ap wordsCovered key in
               let c = covers-more in

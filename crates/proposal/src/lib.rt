@@ -26,15 +26,14 @@ pub enum Asked {
 // Question 16: the entry is in the book, and its source words are the direction's words first to last.
 fn is_fitting(
     book: &[i32],
-    entries: &[usize],
+    index: &[i32],
     t: Task,
     direction: &[u16],
     first: usize,
     last: usize,
     entry: usize,
 ) -> bool
-    requires { ⌜ EntriesAt (now book) (now entries) (t .phrases) ⌝ }
-    requires { ⌜ t .phrases ≤ length (now entries) ⌝ }
+    requires { ⌜ EntriesAt (now book) (now index) (t .phrases) ⌝ }
     ensures { λ r. ⌜ r ≡ fits (bookOf (now (book .entry))) (now (direction .entry)) (stepOf first last entry) ⌝ }
 {
     if entry < 1 {
@@ -43,17 +42,14 @@ fn is_fitting(
     if t.phrases < entry {
         return false;
     }
-    let p = places::phrase_at(book, entries, t.phrases, entry);
+    let p = places::phrase_at(book, index, t.phrases, entry);
     options::fits_at(book, p, direction, first, last)
 }
 
 // 16, 17 and 18 of one step from the state s on, or the state that it leads to.
 pub fn ask_step(
     book: &[i32],
-    entries: &[usize],
-    grams: &[i32],
-    heads: &[u16],
-    links: &[u16],
+    index: &[i32],
     t: Task,
     direction: &[u16],
     s: State,
@@ -61,16 +57,14 @@ pub fn ask_step(
     last: u16,
     entry: u16,
 ) -> Asked
-    requires { ⌜ Prepared (now book) (now direction) (now grams) (now heads) (now links) t ⌝ }
-    requires { ⌜ EntriesAt (now book) (now entries) (t .phrases) ⌝ }
-    requires { ⌜ t .phrases ≤ length (now entries) ⌝ }
+    requires { ⌜ Prepared (now book) (now direction) (now index) t ⌝ }
     requires { ⌜ Ready (now direction) s ⌝ }
     ensures { λ r. ⌜ AskedOf (bookOf (now (book .entry))) (now (direction .entry)) s (stepOf first last entry) r ⌝ }
 {
     let first = first as usize;
     let last = last as usize;
     let entry = entry as usize;
-    if !is_fitting(book, entries, t, direction, first, last, entry) {
+    if !is_fitting(book, index, t, direction, first, last, entry) {
         return Asked::Refused(Refusal::DoesNotFit);
     }
     let runs = coverage::free_runs(s.covered, t.n);
@@ -80,25 +74,20 @@ pub fn ask_step(
     if t.limit < step::jump(s.r as usize, first) {
         return Asked::Refused(Refusal::JumpTooLong);
     }
-    let p = places::phrase_at(book, entries, t.phrases, entry);
-    Asked::Next(step::next_state(book, grams, heads, links, t, p, first, last, s))
+    let p = places::phrase_at(book, index, t.phrases, entry);
+    Asked::Next(step::next_state(book, index, t, p, first, last, s))
 }
 
 // Questions 16 to 19 of the first `count` steps, in their order, and their score where none refuses.
 pub fn score_steps(
     book: &[i32],
-    entries: &[usize],
-    grams: &[i32],
-    heads: &[u16],
-    links: &[u16],
+    index: &[i32],
     t: Task,
     direction: &[u16],
     steps: &[u16],
     count: usize,
 ) -> Scored
-    requires { ⌜ Prepared (now book) (now direction) (now grams) (now heads) (now links) t ⌝ }
-    requires { ⌜ EntriesAt (now book) (now entries) (t .phrases) ⌝ }
-    requires { ⌜ t .phrases ≤ length (now entries) ⌝ }
+    requires { ⌜ Prepared (now book) (now direction) (now index) t ⌝ }
     requires { ⌜ 3 * count ≤ length (now steps) ⌝ }
     ensures { λ r. ⌜ scoredReply r ≡ reply (stepsRefusal (bookOf (now (book .entry))) (now (direction .entry)) (start (wordCount (now (direction .entry)))) (stepsIn (now (steps .entry)) count)) (scoreOf (bookOf (now (book .entry))) (stepsIn (now (steps .entry)) count)) ⌝ }
 {
@@ -110,10 +99,7 @@ pub fn score_steps(
         let entry = steps[3 * i + 2];
         match ask_step(
             book,
-            entries,
-            grams,
-            heads,
-            links,
+            index,
             t,
             direction,
             s,

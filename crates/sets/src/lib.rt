@@ -28,15 +28,12 @@ fn visit(
     count: usize,
     book: &[i32],
     direction: &[u16],
-    entries: &[usize],
-    grams: &[i32],
-    heads: &[u16],
-    links: &[u16],
+    index: &[i32],
     options: &[u16],
     job: Job,
     candidate: Candidate,
 ) -> Grown
-    requires { ⌜ Searchable (now book) (now direction) (now entries) (now grams) (now heads) (now links) (now options) (job .task) ⌝ }
+    requires { ⌜ Searchable (now book) (now direction) (now index) (now options) (job .task) ⌝ }
     requires { ⌜ (candidate .set < job .task .n) × (candidate .at < length (upto (search (bookOf (now book)) (now direction) (job .width)) (candidate .set))) ⌝ }
     requires { ⌜ candidate .top ≡ topOf (bookOf (now book)) (now direction) (job .width) (candidate .set) ⌝ }
     requires { ⌜ Levelling (bookOf (now book)) (now direction) (job .width) (candidate .set) (candidate .at) (now store) count ⌝ }
@@ -58,10 +55,7 @@ fn visit(
         count,
         book,
         direction,
-        entries,
-        grams,
-        heads,
-        links,
+        index,
         options,
         job,
         source,
@@ -74,15 +68,12 @@ fn level(
     count: usize,
     book: &[i32],
     direction: &[u16],
-    entries: &[usize],
-    grams: &[i32],
-    heads: &[u16],
-    links: &[u16],
+    index: &[i32],
     options: &[u16],
     job: Job,
     i: usize,
 ) -> Grown
-    requires { ⌜ Searchable (now book) (now direction) (now entries) (now grams) (now heads) (now links) (now options) (job .task) ⌝ }
+    requires { ⌜ Searchable (now book) (now direction) (now index) (now options) (job .task) ⌝ }
     requires { ⌜ i < job .task .n ⌝ }
     requires { ⌜ Starting (bookOf (now book)) (now direction) (job .width) i (now store) count ⌝ }
     ensures { λ r. ⌜ Reached (bookOf (now (book .entry))) (now (direction .entry)) (job .width) (i + 1) (now (store .exit)) r ⌝ }
@@ -97,10 +88,7 @@ fn level(
             c,
             book,
             direction,
-            entries,
-            grams,
-            heads,
-            links,
+            index,
             options,
             job,
             candidate,
@@ -118,14 +106,11 @@ pub fn search(
     store: &mut [i64],
     book: &[i32],
     direction: &[u16],
-    entries: &[usize],
-    grams: &[i32],
-    heads: &[u16],
-    links: &[u16],
+    index: &[i32],
     options: &[u16],
     job: Job,
 ) -> Grown
-    requires { ⌜ Searchable (now book) (now direction) (now entries) (now grams) (now heads) (now links) (now options) (job .task) ⌝ }
+    requires { ⌜ Searchable (now book) (now direction) (now index) (now options) (job .task) ⌝ }
     requires { ⌜ now store ≡ replicate (length (now store)) (pos 0) ⌝ }
     ensures { λ r. ⌜ Reached (bookOf (now (book .entry))) (now (direction .entry)) (job .width) (wordCount (now (direction .entry))) (now (store .exit)) r ⌝ }
 {
@@ -150,10 +135,7 @@ pub fn search(
             c,
             book,
             direction,
-            entries,
-            grams,
-            heads,
-            links,
+            index,
             options,
             job,
             i,

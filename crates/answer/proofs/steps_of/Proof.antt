@@ -19,11 +19,11 @@ use Rattle.records.proofs.empty.Reads as empty-reads
 use Rattle.records.proofs.with_step.Reads as with-step-reads
 
 abbrev Inv-loop : tie.InvT-loop
-Inv-loop book direction entries options t way d plain₀ k₀ plain k =
+Inv-loop book direction index options t way d plain₀ k₀ plain k =
     (k ≤ d) × ((plain .count ≡ k) × (stepsOf plain ≡ map (optionAt (bookOf book) direction) (take k way)))
 
 abbrev μ-loop : tie.MeasureT-loop
-μ-loop book direction entries options t way d plain₀ k₀ plain k =
+μ-loop book direction index options t way d plain₀ k₀ plain k =
     d - k
 
 -- src/lib.rt:85:9

@@ -21,11 +21,11 @@ use Rattle.derivation.proofs.places.phrase_at.Reads as phrase-at-reads
 use Rattle.records.proofs.step_in.Reads as step-in-reads
 
 abbrev Inv-loop : tie.InvT-loop
-Inv-loop book entries phrases plain words₀ count₀ k₀ words count k =
+Inv-loop book index phrases plain words₀ count₀ k₀ words count k =
     (k ≤ plain .count) × ((count ≤ 8 * k) × ((length words ≡ length words₀) × ((count ≡ length (targetWords (bookOf book) (stepsTo plain k))) × (words ≡ writtenOver (targetWords (bookOf book) (stepsTo plain k)) words₀))))
 
 abbrev μ-loop : tie.MeasureT-loop
-μ-loop book entries phrases plain words₀ count₀ k₀ words count k =
+μ-loop book index phrases plain words₀ count₀ k₀ words count k =
     plain .count - k
 
 -- src/lib.rt:105:5

@@ -17,11 +17,11 @@ use Rattle.coverage.proofs.free_runs.Reads as free-runs-reads
 use Rattle.extending.proofs.extend_from.Reads as extend-from-reads
 
 abbrev Inv-loop : tie.InvT-loop
-Inv-loop store₀ count book direction entries grams heads links options job source run c₀ i₀ store c i =
+Inv-loop store₀ count book direction index options job source run c₀ i₀ store c i =
     (i ≤ job .task .n) × ((length store ≡ length store₀) × Growing (bookOf book) direction (job .width) (source .place .size) (source .at) (startAt options i) store c)
 
 abbrev μ-loop : tie.MeasureT-loop
-μ-loop store₀ count book direction entries grams heads links options job source run c₀ i₀ store c i =
+μ-loop store₀ count book direction index options job source run c₀ i₀ store c i =
     job .task .n - i
 
 -- src/lib.rt:229:9

@@ -17,11 +17,11 @@ use Rattle.options.proofs.option_at.Reads as option-at-reads
 use Rattle.options.proofs.start_at.Reads as start-at-reads
 
 abbrev Inv-loop : tie.InvT-loop
-Inv-loop store₀ count book direction entries grams heads links options job spot to c₀ o₀ store c o =
+Inv-loop store₀ count book direction index options job spot to c₀ o₀ store c o =
     (startAt options (spot .first - 1) ≤ o) × ((o ≤ to) × ((length store ≡ length store₀) × Growing (bookOf book) direction (job .width) (spot .source .place .size) (spot .source .at) o store c))
 
 abbrev μ-loop : tie.MeasureT-loop
-μ-loop store₀ count book direction entries grams heads links options job spot to c₀ o₀ store c o =
+μ-loop store₀ count book direction index options job spot to c₀ o₀ store c o =
     to - o
 
 -- src/lib.rt:140:9

@@ -22,38 +22,38 @@ record Filling (book : Book) (direction options₀ options : List ℕ) (i count 
   filled : Filled book direction options i count
 
 abbrev Inv-loop : tie.InvT-loop
-Inv-loop book entries t direction options₀ count₀ i₀ options count i = Filling (bookOf book) direction options₀ options i count
+Inv-loop book index t direction options₀ count₀ i₀ options count i = Filling (bookOf book) direction options₀ options i count
 
 abbrev μ-loop : tie.MeasureT-loop
-μ-loop book entries t direction options₀ count₀ i₀ options count i = length direction - i
+μ-loop book index t direction options₀ count₀ i₀ options count i = length direction - i
 
 -- src/lib.rt:128:5
 put-start-requires : tie.Need-put-start-requires Inv-loop μ-loop
-put-start-requires c κs = let h = c .before .before .before .before .pre .1 .1 .1 in ((omega arith, omega arith), omega arith)
+put-start-requires c κs = let h = c .before .before .before .pre .1 .1 in ((omega arith, omega arith), omega arith)
 
 -- src/lib.rt:129:5
 loop-holds : tie.Need-loop-holds Inv-loop μ-loop
 loop-holds c =
-    let s = c .before .before .before .before .before .before .before in
+    let s = c .before .before .before .before .before .before in
     record { inside = omega arith; long = refl; few = omega arith; filled = filled-none (bookOf (s .args .book .now)) (s .args .direction .now) (c .before .before .put-start .ensures) }
 
 -- src/lib.rt:130:54
 add-list-at : tie.Need-add-list-at Inv-loop μ-loop
-add-list-at c = let h = c .before .before .before .before .before .before .before .before .before .pre .1 .1 .0 in let t = c .loop-test .taken in omega arith
+add-list-at c = let h = c .before .before .before .before .before .before .before .before .pre .1 .0 in let t = c .loop-test .taken in omega arith
 
 -- src/lib.rt:130:9
 list-at-requires : tie.Need-list-at-requires Inv-loop μ-loop
 list-at-requires c κs =
-    let s = c .before .before .before .before .before .before .before .before .before .before in
+    let s = c .before .before .before .before .before .before .before .before .before in
     let l = c .before .before .loop .inv in
     let t = c .before .loop-test .taken in
-    let d = s .pre .1 .1 .0 in
-    let r = s .pre .1 .1 .1 in
+    let d = s .pre .1 .0 in
+    let r = s .pre .1 .1 in
     let f = s .pre .0 .few in
     let a = l .few in
     let o = l .long in
     let k = c .before .before .before .before .before .put-start .ensures .long in
-    (s .pre .0, (s .pre .1 .0, ((omega arith, omega arith), omega arith)))
+    (s .pre .0, ((omega arith, omega arith), omega arith))
 
 -- src/lib.rt:131:9
 add-i : tie.Need-add-i Inv-loop μ-loop
@@ -62,11 +62,11 @@ add-i c = search needs
 -- src/lib.rt:132:9
 put-start-requires-2 : tie.Need-put-start-requires-2 Inv-loop μ-loop
 put-start-requires-2 c κs =
-    let s = c .before .before .before .before .before .before .before .before .before .before .before .before .before .before in
+    let s = c .before .before .before .before .before .before .before .before .before .before .before .before .before in
     let t = c .before .before .before .before .before .loop-test .taken in
     let l = c .before .before .before .before .before .before .loop in
-    let d = s .pre .1 .1 .0 in
-    let r = s .pre .1 .1 .1 in
+    let d = s .pre .1 .0 in
+    let r = s .pre .1 .1 in
     let o = l .inv .long in
     let k = c .before .before .before .before .before .before .before .before .before .put-start .ensures .long in
     let g = c .before .before .before .list-at in
@@ -84,14 +84,14 @@ loop-less c = let t = c .before .before .before .before .before .before .before 
 -- src/lib.rt:129:5
 loop-again : tie.Need-loop-again Inv-loop μ-loop
 loop-again c =
-    let s = c .before .before .before .before .before .before .before .before .before .before .before .before .before .before .before .before .before in
+    let s = c .before .before .before .before .before .before .before .before .before .before .before .before .before .before .before .before in
     let l = c .before .before .before .before .before .before .before .before .before .loop in
     let t = c .before .before .before .before .before .before .before .before .loop-test .taken in
     let g = c .before .before .before .before .before .before .list-at in
     let w = c .before .before .put-start2 in
     let f = s .pre .0 .few in
-    let d = s .pre .1 .1 .0 in
-    let r = s .pre .1 .1 .1 in
+    let d = s .pre .1 .0 in
+    let r = s .pre .1 .1 in
     let o = l .inv .long in
     let k = c .before .before .before .before .before .before .before .before .before .before .before .before .put-start .ensures .long in
     let m = at-most (bookOf (s .args .book .now)) (s .args .direction .now) (l .i + 1) (s .args .t .phrases) in
@@ -112,12 +112,12 @@ same-length c = c .before .loop .inv .long ∙ c .before .before .before .before
 returns : tie.Need-returns Inv-loop μ-loop
 unfolding wordCount
 returns c =
-    let s = c .before .before .before .before .before .before .before .before .before in
+    let s = c .before .before .before .before .before .before .before .before in
     let l = c .before .loop in
     let i = l .inv .inside in
     let t = c .loop-test .left in
-    let d = s .pre .1 .1 .0 in
-    let r = s .pre .1 .1 .1 in
+    let d = s .pre .1 .0 in
+    let r = s .pre .1 .1 in
     let a = l .inv .few in
     let o = l .inv .long in
     let k = c .before .before .before .before .put-start .ensures .long in

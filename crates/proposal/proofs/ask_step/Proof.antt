@@ -42,7 +42,7 @@ free c =
     c .is-free .ensures
     ∙ free-is (theStep b) (c .before .free-runs .result .run) (wordCount (b .args .direction .now)) (b .args .s) (rw (b .pre .0 .n-is) at (c .before .free-runs .ensures))
     (f .first-from) (f .first-to)
-    (last-inside (b .args .book .now) (b .args .direction .now) (b .args .grams .now) (b .args .heads .now) (b .args .links .now) (b .args .t) (b .pre .0) (b .args .s) (theStep b) (b .pre .1 .1 .1) (fitting (c .before .before)))
+    (last-inside (b .args .book .now) (b .args .direction .now) (b .args .index .now) (b .args .t) (b .pre .0) (b .args .s) (theStep b) (b .pre .1 .1 .1) (fitting (c .before .before)))
 
 is-free-yes : (c : tie.Else2) → isFree (theStep (c .before .before .before .before .before .before .before .before .before)) 1 (theKey (c .before .before .before .before .before .before .before .before .before) .covered) ≡ true
 is-free-yes c = sym (free (c .before)) ∙ not-false _ (c .if2 .left)
@@ -114,7 +114,7 @@ next-state-requires c κs =
       b .pre .0 .model,
       (
         record { entry = entryAt (theBook b) (b .args .entry); is = c .phrase-at .ensures },
-        can-next (b .args .book .now) (b .args .direction .now) (b .args .grams .now) (b .args .heads .now) (b .args .links .now) (b .args .t) (b .pre .0) (b .args .s) (theStep b) (b .pre .1 .1 .1) (fitting (c .before .before .before .before .before .before .before .before))
+        can-next (b .args .book .now) (b .args .direction .now) (b .args .index .now) (b .args .t) (b .pre .0) (b .args .s) (theStep b) (b .pre .1 .1 .1) (fitting (c .before .before .before .before .before .before .before .before))
             (is-free-yes (c .before .before .before .before .before)) (near (c .before)),
       ),
     )
@@ -124,7 +124,7 @@ returns-4 : tie.Need-returns-4
 returns-4 c =
     let b = c .before .before .before .before .before .before .before .before .before .before .before .before .before .before .before in
     rw (c .next-state .ensures (entryAt (theBook b) (b .args .entry)) (c .before .phrase-at .ensures))
-    (follows (b .args .book .now) (b .args .direction .now) (b .args .grams .now) (b .args .heads .now) (b .args .links .now) (b .args .t) (b .pre .0) (b .args .s) (theStep b) (b .pre .1 .1 .1) (fitting (c .before .before .before .before .before .before .before .before .before))
+    (follows (b .args .book .now) (b .args .direction .now) (b .args .index .now) (b .args .t) (b .pre .0) (b .args .s) (theStep b) (b .pre .1 .1 .1) (fitting (c .before .before .before .before .before .before .before .before .before))
     (is-free-yes (c .before .before .before .before .before .before)) (near (c .before .before)) (c .before .phrase-at .result) (c .before .phrase-at .ensures))
 
 pub ask-step-spec : {M : Type 1} → statement M

@@ -18,10 +18,10 @@ use Rattle.proposal.proofs.score_steps.Statement.{statement}
 use Rattle.proposal.proofs.score_steps.Tie as tie
 
 abbrev Inv-loop : tie.InvT-loop
-Inv-loop book entries grams heads links t direction steps count s₀ i₀ s i = (i ≤ count) × Scoring (bookOf book) direction (stepsIn steps count) s (rest steps count i)
+Inv-loop book index t direction steps count s₀ i₀ s i = (i ≤ count) × Scoring (bookOf book) direction (stepsIn steps count) s (rest steps count i)
 
 abbrev μ-loop : tie.MeasureT-loop
-μ-loop book entries grams heads links t direction steps count s₀ i₀ s i = count - i
+μ-loop book index t direction steps count s₀ i₀ s i = count - i
 
 -- the step's three numbers stand in the list, which is no longer than memory
 inside : (c : tie.In-loop Inv-loop μ-loop)

@@ -17,11 +17,11 @@ use Rattle.sets.proofs.visit.Reads as visit-reads
 use Rattle.states.proofs.reading.top_score.Reads as top-score-reads
 
 abbrev Inv-loop : tie.InvT-loop
-Inv-loop store₀ count book direction entries grams heads links options job i top c₀ j₀ store c j =
+Inv-loop store₀ count book direction index options job i top c₀ j₀ store c j =
     (j ≤ count) × ((length store ≡ length store₀) × Levelling (bookOf book) direction (job .width) i j store c)
 
 abbrev μ-loop : tie.MeasureT-loop
-μ-loop store₀ count book direction entries grams heads links options job i top c₀ j₀ store c j =
+μ-loop store₀ count book direction index options job i top c₀ j₀ store c j =
     count - j
 
 -- src/lib.rt:72:9

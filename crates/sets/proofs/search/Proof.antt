@@ -19,11 +19,11 @@ use Rattle.notes.proofs.State.start.Reads as start-reads
 use Rattle.store.proofs.index.append_place.Reads as append-place-reads
 
 abbrev Inv-loop : tie.InvT-loop
-Inv-loop store₀ book direction entries grams heads links options job c₀ i₀ store c i =
+Inv-loop store₀ book direction index options job c₀ i₀ store c i =
     (i ≤ job .task .n) × ((length store ≡ length store₀) × Starting (bookOf book) direction (job .width) i store c)
 
 abbrev μ-loop : tie.MeasureT-loop
-μ-loop store₀ book direction entries grams heads links options job c₀ i₀ store c i =
+μ-loop store₀ book direction index options job c₀ i₀ store c i =
     job .task .n - i
 
 -- src/lib.rt:103:9
