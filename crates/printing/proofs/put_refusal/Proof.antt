@@ -17,7 +17,7 @@ use Rattle.printing.proofs.put_refusal.Tie as tie
 
 -- the number is small, and the one that code holds
 small : (c : tie.After-number-of) → number (c .before .before .args .refusal) ≤ 99
-small c = omega (arith, number-to (c .before .before .args .refusal))
+small c = number-to (c .before .before .args .refusal)
 
 numbers-are : (c : tie.After-number-of) → toZ w64 (c .number-of .result) ∷ [] ≡ pos (number (c .before .before .args .refusal)) ∷ []
 numbers-are c =
