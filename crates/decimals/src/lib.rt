@@ -62,10 +62,11 @@ pub fn put_number(out: &mut [u8], at: usize, z: i64) -> usize
 }
 
 // Puts a number of a line, after its comma.
-pub fn put_field(out: &mut [u8], at: usize, n: usize) -> usize
-    requires { ⌜ at + length (field (pos n)) ≤ length (now out) ⌝ }
-    ensures { λ r. ⌜ Put (field (pos n)) at r (now (out .entry)) (now (out .exit)) ⌝ }
+pub fn put_field(out: &mut [u8], at: usize, z: i64) -> usize
+    requires { ⌜ Within (2 ^ 62) z ⌝ }
+    requires { ⌜ at + length (field z) ≤ length (now out) ⌝ }
+    ensures { λ r. ⌜ Put (field z) at r (now (out .entry)) (now (out .exit)) ⌝ }
 {
     let digits = put_byte(out, at, 44);
-    put_natural(out, digits, n)
+    put_number(out, digits, z)
 }

@@ -30,8 +30,8 @@ use Rattle.derivation.specs.declared.Task.{Task}
 use Rattle.store.specs.Store.{Storable}
 use Rattle.states.specs.Ghost.{optionAt, Chosen, Growing, Grew, After, NextPlace}
 use Rattle.store.specs.declared.Place.{Place}
-use Rattle.store.specs.declared.Added.{Added}
-use Rattle.store.specs.declared.Added.the-variants.{Replaced, Kept, Appended, Full}
+use Rattle.states.specs.declared.Added.{Added}
+use Rattle.states.specs.declared.Added.the-variants.{Replaced, Kept, Appended, Full}
 use Rattle.states.specs.declared.Grown.{Grown}
 use Rattle.states.proofs.Ghost.{skipped, went, chosen-score, next-storable}
 use Rattle.extending.specs.Extend.{nextPlace, CanPlace, grownBy, Grows, Searchable, SpotOf, TurnOf}

@@ -19,10 +19,10 @@ use Rattle.extending.specs.declared.Spot.{Spot}
 use Rattle.extending.specs.declared.Turn.{Turn}
 use Rattle.derivation.specs.declared.Task.{Task}
 use Rattle.derivation.specs.declared.Phrase.{Phrase}
-use Rattle.store.specs.Store.{AddedOf, IndexedAfter}
+use Rattle.states.specs.Adding.{AddedOf, IndexedAfter}
 use Rattle.store.specs.declared.Place.{Place}
-use Rattle.store.specs.declared.Added.{Added}
-use Rattle.store.specs.declared.Added.the-variants.{Replaced, Kept, Appended, Full}
+use Rattle.states.specs.declared.Added.{Added}
+use Rattle.states.specs.declared.Added.the-variants.{Replaced, Kept, Appended, Full}
 use Rattle.states.specs.declared.Grown.{Grown}
 use Rattle.states.specs.declared.Grown.the-variants.{On, Overflow}
 

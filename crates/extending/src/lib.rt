@@ -1,8 +1,8 @@
 // A state of the store is extended by every step that may follow it.
 use derivation::Phrase;
 use derivation::Task;
+use states::Added;
 use states::Grown;
-use store::Added;
 use store::Place;
 ghost use mathlib.Core.Path.{_≡_};
 ghost use Prim.Native.Nat.{_+_, _-_, _^_, _≤_, _<_};
@@ -79,7 +79,7 @@ fn grow(store: &mut [i64], count: usize, y: Place) -> Grown
     requires { ⌜ Storable y ⌝ }
     ensures { λ r. ⌜ Grows (now (store .entry)) (now (store .exit)) count y r ⌝ }
 {
-    match store::index::add_place(store, count, y) {
+    match states::adding::add_place(store, count, y) {
         Added::Replaced => Grown::On(count),
         Added::Kept => Grown::On(count),
         Added::Appended => Grown::On(count + 1),

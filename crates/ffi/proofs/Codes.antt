@@ -1,4 +1,4 @@
--- A refusal's number is one of the nineteen, so it fits every type of the interface, and so does a count within a lent list.
+-- A refusal's number has at most two digits, so it fits every type of the interface, and so does a count within a lent list.
 use Prim.Native.Nat.{ℕ, _≤_, _<_}
 use native.Mathlib.Omega.{arith}
 use mathlib.Core.Path.{_≡_, sym, _∙_}
@@ -28,9 +28,9 @@ pub code-back : (z : ℤ) (refusal : Refusal) → z ≡ pos (number refusal) →
 code-back z refusal e = back-pos w32 z (number refusal) e (let h = number-to refusal in omega arith)
 
 -- minus a refusal's number
-module _ (k : ℕ) (h : k ≤ 19) where
-  minus-got : Got 19 (pos 0 -ℤ toZ w64 k) (pos 0 -ℤ pos k)
-  minus-got = sub (lit {B = 0} (pos 0) (within-pos 0)) (nat w64 {n = k} {B = 19} (omega arith) h)
+module _ (k : ℕ) (h : k ≤ 99) where
+  minus-got : Got 99 (pos 0 -ℤ toZ w64 k) (pos 0 -ℤ pos k)
+  minus-got = sub (lit {B = 0} (pos 0) (within-pos 0)) (nat w64 {n = k} {B = 99} (omega arith) h)
 
   pub minus-fits : SFits w64 (pos 0 -ℤ toZ w64 k)
   minus-fits = fits minus-got (omega arith)

@@ -1,85 +1,52 @@
--- The number of a refusal is 1 to 19, and not 0, which is the number of none; different refusals have different numbers.
+-- The number of a refusal is 1 to 99, and not 0, which is the number of none; different refusals have different numbers.
 use Prim.Native.Nat.{ℕ, zero, suc, _-_, _≤_}
 use native.Mathlib.Omega.{arith}
 use mathlib.Core.Path.{_≡_, refl, sym, _∙_, ap}
+use mathlib.Core.Bool.{true}
 use mathlib.Core.List.{[], _∷_}
 use lib.ListN.{getD}
-use Rattle.notes.specs.Questions.{_orelse_, number}
+use Rattle.laws.proofs.Tests.{between}
+use Rattle.notes.specs.Questions.{_orelse_, within, number}
 use Rattle.notes.specs.Reply.{Reply, refused, reply}
 use Rattle.notes.specs.declared.Refusal.{Refusal}
 use Rattle.notes.specs.declared.Refusal.the-variants.{BookText, LineFields, BLine, NumberRange, LineCount, RepeatedTriple, ListTooShort, DirectionText, WordCount, WordRange, Width, StepsOrWordsTooShort, StoreTooSmall, NoDerivation, LastSetEmpty, DoesNotFit, CoveredTwice, JumpTooLong, Uncovered}
-
-pub number-from : (refusal : Refusal) → 1 ≤ number refusal
-number-from BookText = omega arith
-number-from LineFields = omega arith
-number-from BLine = omega arith
-number-from NumberRange = omega arith
-number-from LineCount = omega arith
-number-from RepeatedTriple = omega arith
-number-from ListTooShort = omega arith
-number-from DirectionText = omega arith
-number-from WordCount = omega arith
-number-from WordRange = omega arith
-number-from Width = omega arith
-number-from StepsOrWordsTooShort = omega arith
-number-from StoreTooSmall = omega arith
-number-from NoDerivation = omega arith
-number-from LastSetEmpty = omega arith
-number-from DoesNotFit = omega arith
-number-from CoveredTwice = omega arith
-number-from JumpTooLong = omega arith
-number-from Uncovered = omega arith
-
--- none has a number above 19
-pub number-to : (refusal : Refusal) → number refusal ≤ 19
-number-to BookText = omega arith
-number-to LineFields = omega arith
-number-to BLine = omega arith
-number-to NumberRange = omega arith
-number-to LineCount = omega arith
-number-to RepeatedTriple = omega arith
-number-to ListTooShort = omega arith
-number-to DirectionText = omega arith
-number-to WordCount = omega arith
-number-to WordRange = omega arith
-number-to Width = omega arith
-number-to StepsOrWordsTooShort = omega arith
-number-to StoreTooSmall = omega arith
-number-to NoDerivation = omega arith
-number-to LastSetEmpty = omega arith
-number-to DoesNotFit = omega arith
-number-to CoveredTwice = omega arith
-number-to JumpTooLong = omega arith
-number-to Uncovered = omega arith
 
 -- the refusals by their numbers
 abbrev byNumber : ℕ → Refusal
 byNumber k = getD (BookText ∷ LineFields ∷ BLine ∷ NumberRange ∷ LineCount ∷ RepeatedTriple ∷ ListTooShort ∷ DirectionText ∷ WordCount ∷ WordRange ∷ Width ∷ StepsOrWordsTooShort ∷ StoreTooSmall ∷ NoDerivation ∷ LastSetEmpty ∷ DoesNotFit ∷ CoveredTwice ∷ JumpTooLong ∷ Uncovered ∷ []) (k - 1) BookText
 
-by-number : (refusal : Refusal) → byNumber (number refusal) ≡ refusal
-by-number BookText = refl
-by-number LineFields = refl
-by-number BLine = refl
-by-number NumberRange = refl
-by-number LineCount = refl
-by-number RepeatedTriple = refl
-by-number ListTooShort = refl
-by-number DirectionText = refl
-by-number WordCount = refl
-by-number WordRange = refl
-by-number Width = refl
-by-number StepsOrWordsTooShort = refl
-by-number StoreTooSmall = refl
-by-number NoDerivation = refl
-by-number LastSetEmpty = refl
-by-number DoesNotFit = refl
-by-number CoveredTwice = refl
-by-number JumpTooLong = refl
-by-number Uncovered = refl
+-- each has a number of 1 to 99 and can be told by it: the one proof that goes through them all
+each : (refusal : Refusal) → (within 1 99 (number refusal) ≡ true) × (byNumber (number refusal) ≡ refusal)
+each BookText = (refl, refl)
+each LineFields = (refl, refl)
+each BLine = (refl, refl)
+each NumberRange = (refl, refl)
+each LineCount = (refl, refl)
+each RepeatedTriple = (refl, refl)
+each ListTooShort = (refl, refl)
+each DirectionText = (refl, refl)
+each WordCount = (refl, refl)
+each WordRange = (refl, refl)
+each Width = (refl, refl)
+each StepsOrWordsTooShort = (refl, refl)
+each StoreTooSmall = (refl, refl)
+each NoDerivation = (refl, refl)
+each LastSetEmpty = (refl, refl)
+each DoesNotFit = (refl, refl)
+each CoveredTwice = (refl, refl)
+each JumpTooLong = (refl, refl)
+each Uncovered = (refl, refl)
+
+pub number-from : (refusal : Refusal) → 1 ≤ number refusal
+number-from refusal = between 1 99 (number refusal) (each refusal .0) .0
+
+-- two digits are enough
+pub number-to : (refusal : Refusal) → number refusal ≤ 99
+number-to refusal = between 1 99 (number refusal) (each refusal .0) .1
 
 -- different refusals have different numbers
 pub number-same : (a b : Refusal) → number a ≡ number b → a ≡ b
-number-same a b e = sym (by-number a) ∙ ap byNumber e ∙ by-number b
+number-same a b e = sym (each a .1) ∙ ap byNumber e ∙ each b .1
 
 -- a question that refuses ends the chain
 pub refused-first : (k m : ℕ) → 1 ≤ k → k orelse m ≡ k

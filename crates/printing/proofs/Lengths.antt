@@ -1,7 +1,7 @@
 -- How long what is printed may be, so that a caller can show that there is room for it.
 use Prim.Native.Nat.{ℕ, suc, _+_, _*_, _^_, _≤_, _<_}
-use mathlib.Core.Path.{refl, sym, ap, subst, _∙_}
-use mathlib.Core.List.{List, [], _∷_, _++_, map, List·Memᴰ, List·Memᴰ·head, List·Memᴰ·tail}
+use mathlib.Core.Path.{_≡_, refl, sym, ap, subst, _∙_}
+use mathlib.Core.List.{List, [], _∷_, _++_, map, List·Memᴰ, List·Memᴰ·head, List·Memᴰ·tail, map-map}
 use native.Mathlib.Nat.{mul-suc}
 use native.Mathlib.Omega.{arith}
 use lib.IntN.{ℤ, pos, negsuc}
@@ -9,16 +9,19 @@ use lib.ListN.{length, getD, length-append}
 use Rattle.laws.specs.Integers.{Within}
 use Rattle.laws.specs.Lists.{concat}
 use Rattle.laws.proofs.Lists.{mem-getD}
+use Rattle.notes.specs.Questions.{number}
 use Rattle.notes.specs.Render.{decimal, printedLine, printedStep, printedRefusal, printedAnswer}
 use Rattle.notes.specs.Reply.{Outcome}
 use Rattle.notes.specs.State.{scoreBound}
+use Rattle.notes.specs.declared.Refusal.{Refusal}
 use Rattle.notes.specs.declared.Step.{Step}
+use Rattle.notes.proofs.Numbered.{number-to}
 use Rattle.records.specs.Plain.{stepIn, stepsOf}
 use Rattle.records.proofs.Laws.{count-steps, step-at}
 use Rattle.printing.specs.Lines.{plainOf}
 use Rattle.decimals.specs.Put.{field}
 use Rattle.decimals.proofs.Digits.{at-most, negative}
-use Rattle.printing.proofs.Lines.{line-1-long, line-3-long, line-4-long, line-of-long, three-long}
+use Rattle.printing.proofs.Lines.{line-long}
 
 -- ---- numbers
 
@@ -38,8 +41,19 @@ score-short (negsuc n) h = omega (arith, ap length (negative n), at-most 8 (suc 
 
 -- ---- lines
 
-pub refusal-short : (k : ℕ) → k < 100 → length (printedRefusal k) ≤ 5
-refusal-short k h = omega (arith, line-1-long 82 (pos k), two-digits k h)
+-- a line of one number, of three and of four
+line-1-long : (l : ℕ) (a : ℤ) → length (printedLine l (a ∷ [])) ≡ 3 + length (decimal a)
+line-1-long l a = line-long l (a ∷ []) ∙ simp length-append (omega arith)
+
+line-3-long : (l : ℕ) (a b c : ℤ) → length (printedLine l (a ∷ b ∷ c ∷ [])) ≡ 5 + length (decimal a) + length (decimal b) + length (decimal c)
+line-3-long l a b c = line-long l (a ∷ b ∷ c ∷ []) ∙ simp length-append (omega arith)
+
+line-4-long : (l : ℕ) (a b c d : ℤ) → length (printedLine l (a ∷ b ∷ c ∷ d ∷ [])) ≡ 6 + length (decimal a) + length (decimal b) + length (decimal c) + length (decimal d)
+line-4-long l a b c d = line-long l (a ∷ b ∷ c ∷ d ∷ []) ∙ simp length-append (omega arith)
+
+-- at most 99
+pub refusal-short : (refusal : Refusal) → length (printedRefusal (number refusal)) ≤ 5
+refusal-short refusal = omega (arith, line-1-long 82 (pos (number refusal)), two-digits (number refusal) (omega (arith, number-to refusal)))
 
 -- a step of 16-bit numbers
 pub record Small (step : Step) : Type 0 where
@@ -50,7 +64,7 @@ pub record Small (step : Step) : Type 0 where
 pub step-short : (step : Step) → Small step → length (printedStep step) ≤ 20
 step-short step h =
     omega
-    (arith, line-3-long 83 (step .first) (step .last) (step .entry), three-long (step .first) (step .last) (step .entry), five-digits (step .first) (h .first), five-digits (step .last) (h .last), five-digits (step .entry) (h .entry))
+    (arith, line-3-long 83 (pos (step .first)) (pos (step .last)) (pos (step .entry)), five-digits (step .first) (h .first), five-digits (step .last) (h .last), five-digits (step .entry) (h .entry))
 
 -- as many as there are elements, each at most `most`
 pub each-short : {A : Type 0} (f : A → List ℕ) (most : ℕ) (xs : List A) → ((x : A) → List·Memᴰ x xs → length (f x) ≤ most) → length (concat (map f xs)) ≤ most * length xs
@@ -64,7 +78,7 @@ steps-short steps h = each-short printedStep 20 steps (λ s m. step-short s (h s
 
 pub words-short : (words : List ℕ) → ((w : ℕ) → List·Memᴰ w words → w < 65_536) → length (printedLine 87 (map pos words)) ≤ 2 + 6 * length words
 words-short words h =
-    omega (arith, line-of-long 87 words, each-short (λ n. field (pos n)) 6 words (λ w m. omega (arith, five-digits w (h w m))))
+    omega (arith, line-long 87 (map pos words), ap (λ (l : List (List ℕ)). length (concat l)) (map-map field pos words), each-short (λ n. field (pos n)) 6 words (λ w m. omega (arith, five-digits w (h w m))))
 
 -- ---- an answer: 32 steps of 20 bytes, 256 words of 6, and the line of its numbers
 
@@ -76,7 +90,7 @@ answer-short a steps words score states few small short fit =
     let counts = printedLine 65 (a .score ∷ pos (length steps) ∷ pos (length words) ∷ pos (a .states) ∷ []) in
     let lines = concat (map printedStep steps) in
     omega
-    (arith, length-append (counts ++ lines) (printedLine 87 (map pos words)), length-append counts lines, line-4-long 65 (a .score) (length steps) (length words) (a .states), three-long (length steps) (length words) (a .states), score-short (a .score) score, two-digits (length steps) (omega arith), at-most 2 (length words) (omega arith), twenty-digits (a .states) states, steps-short steps small, words-short words fit)
+    (arith, length-append (counts ++ lines) (printedLine 87 (map pos words)), length-append counts lines, line-4-long 65 (a .score) (pos (length steps)) (pos (length words)) (pos (a .states)), score-short (a .score) score, two-digits (length steps) (omega arith), at-most 2 (length words) (omega arith), twenty-digits (a .states) states, steps-short steps small, words-short words fit)
 
 -- steps that stand as plain numbers are of 16-bit numbers where the numbers are
 pub steps-small : (numbers : List ℕ) (count : ℕ) → ((i : ℕ) → getD numbers i 0 < 65_536) → (s : Step) → List·Memᴰ s (stepsOf (plainOf numbers count)) → Small s

@@ -1,55 +1,65 @@
 // What the rendering program prints, a line at a time, put into a lent list of bytes from a place on, as crate `decimals` puts its
 // numbers.
-ghost use mathlib.Core.List.{_∷_, [], map};
-ghost use Prim.Native.Nat.{_+_, _*_, _^_, _≤_};
+ghost use mathlib.Core.Path.{_≡_};
+ghost use mathlib.Core.List.{map};
+ghost use Prim.Native.Nat.{_+_, _*_, _≤_};
 ghost use lib.IntN.{pos};
-ghost use lib.ListN.{length};
-ghost use Rattle.laws.specs.Integers.{Within};
+ghost use lib.ListN.{length, take};
 ghost use Rattle.laws.specs.Lists.{concat};
+ghost use Rattle.notes.specs.Questions.{number};
 ghost use Rattle.notes.specs.Render.{printedLine, printedStep, printedRefusal, printedAnswer};
 ghost use Rattle.records.specs.Plain.{stepsOf};
 ghost use Rattle.decimals.specs.Put.{Put, field};
-ghost use Rattle.printing.specs.Lines.{lastThree, outcomeOf, plainOf};
+ghost use Rattle.printing.specs.Lines.{Printable, countsOf, outcomeOf, plainOf};
+use notes::Refusal;
 use notes::Step;
 
-// Puts the line of a refusal.
-pub fn put_refusal(out: &mut [u8], at: usize, k: usize) -> usize
-    requires { ⌜ at + length (printedRefusal k) ≤ length (now out) ⌝ }
-    ensures { λ r. ⌜ Put (printedRefusal k) at r (now (out .entry)) (now (out .exit)) ⌝ }
+// Puts each number of a list after a comma.
+fn put_fields(out: &mut [u8], at: usize, numbers: &[i64]) -> usize
+    requires { ⌜ Printable (now numbers) ⌝ }
+    requires { ⌜ at + length (concat (map field (now numbers))) ≤ length (now out) ⌝ }
+    ensures { λ r. ⌜ Put (concat (map field (now (numbers .entry)))) at r (now (out .entry)) (now (out .exit)) ⌝ }
 {
-    let number = decimals::put_byte(out, at, 82);
-    let end = decimals::put_field(out, number, k);
+    let mut next = at;
+    let mut i = 0;
+    while i < numbers.len() {
+        next = decimals::put_field(out, next, numbers[i]);
+        i += 1;
+    }
+    next
+}
+
+// Puts a line: its letter, each number after a comma, and byte 10. Every line of the output is one of these.
+pub fn put_line(out: &mut [u8], at: usize, letter: u8, numbers: &[i64]) -> usize
+    requires { ⌜ Printable (now numbers) ⌝ }
+    requires { ⌜ at + length (printedLine letter (now numbers)) ≤ length (now out) ⌝ }
+    ensures { λ r. ⌜ Put (printedLine letter (now (numbers .entry))) at r (now (out .entry)) (now (out .exit)) ⌝ }
+{
+    let first = decimals::put_byte(out, at, letter);
+    let end = put_fields(out, first, numbers);
     decimals::put_byte(out, end, 10)
 }
 
-// Puts the last three numbers of a line, and its end.
-fn put_last_three(out: &mut [u8], at: usize, a: usize, b: usize, c: usize) -> usize
-    requires { ⌜ at + length (lastThree a b c) ≤ length (now out) ⌝ }
-    ensures { λ r. ⌜ Put (lastThree a b c) at r (now (out .entry)) (now (out .exit)) ⌝ }
+// Puts the line of a refusal.
+pub fn put_refusal(out: &mut [u8], at: usize, refusal: Refusal) -> usize
+    requires { ⌜ at + length (printedRefusal (number refusal)) ≤ length (now out) ⌝ }
+    ensures { λ r. ⌜ Put (printedRefusal (number refusal)) at r (now (out .entry)) (now (out .exit)) ⌝ }
 {
-    let second = decimals::put_field(out, at, a);
-    let third = decimals::put_field(out, second, b);
-    let end = decimals::put_field(out, third, c);
-    decimals::put_byte(out, end, 10)
+    let numbers = [notes::number_of(refusal) as i64];
+    put_line(out, at, 82, &numbers)
 }
 
 // Puts the line of a step.
-pub fn put_step(out: &mut [u8], at: usize, step: Step) -> usize
+fn put_step(out: &mut [u8], at: usize, step: Step) -> usize
     requires { ⌜ at + length (printedStep step) ≤ length (now out) ⌝ }
     ensures { λ r. ⌜ Put (printedStep step) at r (now (out .entry)) (now (out .exit)) ⌝ }
 {
-    let numbers = decimals::put_byte(out, at, 83);
-    put_last_three(
-        out,
-        numbers,
-        step.first as usize,
-        step.last as usize,
-        step.entry as usize,
-    )
+    let numbers = [step.first as i64, step.last as i64, step.entry as i64];
+    put_line(out, at, 83, &numbers)
 }
 
 // Puts the line of an answer's numbers: its score, how many steps and target words it has, and how many states were entered.
-pub fn put_counts(
+fn put_counts(
     out: &mut [u8],
     at: usize,
     score: i64,
@@ -57,42 +67,40 @@ pub fn put_counts(
     words: usize,
     states: usize,
 ) -> usize
-    requires { ⌜ Within (2 ^ 62) score ⌝ }
-    requires { ⌜ at + length (printedLine 65 (score ∷ pos steps ∷ pos words ∷ pos states ∷ [])) ≤ length (now out) ⌝ }
-    ensures { λ r. ⌜ Put (printedLine 65 (score ∷ pos steps ∷ pos words ∷ pos states ∷ [])) at r (now (out .entry)) (now (out .exit)) ⌝ }
+    requires { ⌜ Printable (countsOf score steps words states) ⌝ }
+    requires { ⌜ at + length (printedLine 65 (countsOf score steps words states)) ≤ length (now out) ⌝ }
+    ensures { λ r. ⌜ Put (printedLine 65 (countsOf score steps words states)) at r (now (out .entry)) (now (out .exit)) ⌝ }
 {
-    let comma = decimals::put_byte(out, at, 65);
-    let number = decimals::put_byte(out, comma, 44);
-    let counts = decimals::put_number(out, number, score);
-    put_last_three(out, counts, steps, words, states)
+    let numbers = [score, steps as i64, words as i64, states as i64];
+    put_line(out, at, 65, &numbers)
 }
 
-// Puts each number of a list after a comma.
-pub fn put_fields(out: &mut [u8], at: usize, words: &[u16]) -> usize
-    requires { ⌜ at + length (concat (map (λ n. field (pos n)) (now words))) ≤ length (now out) ⌝ }
-    ensures { λ r. ⌜ Put (concat (map (λ n. field (pos n)) (now (words .entry)))) at r (now (out .entry)) (now (out .exit)) ⌝ }
+// Puts words into a row as the numbers of a line, from its beginning on.
+fn widen(words: &[u16], row: &mut [i64])
+    requires { ⌜ length (now words) ≤ length (now row) ⌝ }
+    ensures { λ _. ⌜ take (length (now (words .entry))) (now (row .exit)) ≡ map pos (now (words .entry)) ⌝ }
 {
-    let mut next = at;
     let mut i = 0;
     while i < words.len() {
-        next = decimals::put_field(out, next, words[i] as usize);
+        row[i] = words[i] as i64;
         i += 1;
     }
-    next
 }
 
-// Puts the line of the target words.
-pub fn put_words(out: &mut [u8], at: usize, words: &[u16]) -> usize
+// Puts the line of the target words: an answer has at most 256.
+fn put_words(out: &mut [u8], at: usize, words: &[u16]) -> usize
+    requires { ⌜ length (now words) ≤ 256 ⌝ }
     requires { ⌜ at + length (printedLine 87 (map pos (now words))) ≤ length (now out) ⌝ }
     ensures { λ r. ⌜ Put (printedLine 87 (map pos (now (words .entry)))) at r (now (out .entry)) (now (out .exit)) ⌝ }
 {
-    let first = decimals::put_byte(out, at, 87);
-    let end = put_fields(out, first, words);
-    decimals::put_byte(out, end, 10)
+    let mut row = [0i64; 256];
+    widen(words, &mut row);
+    let count = words.len();
+    put_line(out, at, 87, &row[..count])
 }
 
 // Puts the lines of `count` steps, which stand in `plain` as three numbers each: first, last, entry.
-pub fn put_steps(out: &mut [u8], at: usize, plain: &[u16], count: usize) -> usize
+fn put_steps(out: &mut [u8], at: usize, plain: &[u16], count: usize) -> usize
     requires { ⌜ 3 * count ≤ length (now plain) ⌝ }
     requires { ⌜ at + length (concat (map printedStep (stepsOf (plainOf (now plain) count)))) ≤ length (now out) ⌝ }
     ensures { λ r. ⌜ Put (concat (map printedStep (stepsOf (plainOf (now (plain .entry)) count)))) at r (now (out .entry)) (now (out .exit)) ⌝ }
@@ -122,7 +130,8 @@ pub fn put_answer(
     count: usize,
     words: &[u16],
 ) -> usize
-    requires { ⌜ Within (2 ^ 62) score ⌝ }
+    requires { ⌜ Printable (countsOf score count (length (now words)) states) ⌝ }
+    requires { ⌜ length (now words) ≤ 256 ⌝ }
     requires { ⌜ 3 * count ≤ length (now plain) ⌝ }
     requires { ⌜ at + length (printedAnswer (outcomeOf score states) (stepsOf (plainOf (now plain) count)) (now words)) ≤ length (now out) ⌝ }
     ensures { λ r. ⌜ Put (printedAnswer (outcomeOf score states) (stepsOf (plainOf (now (plain .entry)) count)) (now (words .entry))) at r (now (out .entry)) (now (out .exit)) ⌝ }

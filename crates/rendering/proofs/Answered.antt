@@ -15,7 +15,7 @@ use Rattle.notes.specs.declared.Answer.{Answer}
 use Rattle.notes.specs.declared.Decoded.{Decoded}
 use Rattle.notes.specs.declared.Decoded.the-variants.{Done, Refused}
 use Rattle.notes.specs.declared.Step.{Step}
-use Rattle.notes.proofs.Demands.{decode-bound}
+use Rattle.notes.proofs.Demands.{answered, decode-bound}
 use Rattle.records.specs.declared.Plain.{Plain}
 use Rattle.records.specs.Plain.{stepsTo, stepsOf}
 use Rattle.records.proofs.Laws.{count-steps, first-steps, same-steps, over-same}
@@ -62,10 +62,12 @@ module _ (loaded : List ℤ) (direction : List ℕ) (p : Plain) (few : p .count 
   fits : (d : Decoded) → decodedReply d ≡ decodeOff loaded direction → ListsAfter book direction d places (writtenOver (stepsOf p) places) words₀ words₁ → FitsDecoded d
   unfolding decodeOff
   fits (Done a) e w =
+      let r = answered loaded direction (negsuc 0) (record { steps = 32; words = 256; store = 4_096 }) (outcomeOf (a .score) (a .states)) (sym e) in
       record {
         score = decode-bound loaded direction (negsuc 0) (record { steps = 32; words = 256; store = 4_096 }) (outcomeOf (a .score) (a .states)) (sym e);
         steps = steps-few a w;
         words = words-few a w;
+        states = omega (arith, r .states-are, r .room);
       }
   fits (Refused refusal) e w = tt
 

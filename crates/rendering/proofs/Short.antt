@@ -1,30 +1,30 @@
--- What the program prints has at most 4,096 bytes: the line of a refusal, and an answer to at most 32 words.
-use Prim.Native.Nat.{ℕ, _^_, _≤_, _<_}
+-- An answer to at most 32 words can be printed, in at most 4,096 bytes.
+use Prim.Native.Nat.{ℕ, _≤_, _<_}
 use native.Mathlib.Omega.{arith}
 use mathlib.Core.Path.{sym, _∙_, subst}
 use mathlib.Core.List.{List, List·Memᴰ}
 use lib.ListN.{length, getD, take, length-take}
 use lib.Seq.{getD-take}
+use Rattle.laws.proofs.Bounds.{within-mono}
 use Rattle.laws.proofs.Lists.{mem-getD}
-use Rattle.notes.specs.Questions.{number}
-use Rattle.notes.specs.Render.{printedRefusal}
 use Rattle.notes.specs.declared.Answer.{Answer}
-use Rattle.notes.specs.declared.Refusal.{Refusal}
-use Rattle.notes.proofs.Numbered.{number-to}
 use Rattle.records.proofs.Laws.{count-steps}
 use Rattle.records.specs.Plain.{stepsOf}
-use Rattle.printing.specs.Lines.{outcomeOf, plainOf}
-use Rattle.printing.proofs.Lengths.{refusal-short, answer-short, steps-small}
+use Rattle.printing.specs.Lines.{Printable, countsOf, outcomeOf, plainOf}
+use Rattle.printing.proofs.Numbers.{none-put, and-put, nat-put}
+use Rattle.printing.proofs.Lengths.{answer-short, steps-small}
 use Rattle.rendering.specs.Parts.{Fits, printedDone}
 
-pub refusal-fits : (refusal : Refusal) → length (printedRefusal (number refusal)) ≤ 5
-refusal-fits refusal = refusal-short (number refusal) (omega (arith, number-to refusal))
+-- the numbers of its first line can be put
+pub done-printable : (a : Answer) → Fits a → Printable (countsOf (a .score) (a .steps) (a .words) (a .states))
+done-printable a f =
+    and-put (within-mono (omega arith) (f .score)) (and-put (nat-put _ (omega (arith, f .steps))) (and-put (nat-put _ (omega (arith, f .words))) (and-put (nat-put _ (omega (arith, f .states))) none-put)))
 
--- the numbers of an answer are of 16 bits, and its states are counted in 64
-pub done-short : (a : Answer) (numbers words : List ℕ) → Fits a → a .states < 2 ^ 64 → ((i : ℕ) → getD numbers i 0 < 65_536) → ((i : ℕ) → getD words i 0 < 65_536)
+-- the numbers of an answer are of 16 bits
+pub done-short : (a : Answer) (numbers words : List ℕ) → Fits a → ((i : ℕ) → getD numbers i 0 < 65_536) → ((i : ℕ) → getD words i 0 < 65_536)
     → length (printedDone a numbers words) ≤ 4_096
-done-short a numbers words f states small fit =
-    answer-short (outcomeOf (a .score) (a .states)) (stepsOf (plainOf numbers (a .steps))) (take (a .words) words) (f .score) states
+done-short a numbers words f small fit =
+    answer-short (outcomeOf (a .score) (a .states)) (stepsOf (plainOf numbers (a .steps))) (take (a .words) words) (f .score) (omega (arith, f .states))
     (omega (arith, count-steps (plainOf numbers (a .steps)) (a .steps), f .steps)) (steps-small numbers (a .steps) small)
     (omega (arith, length-take (a .words) words, f .words)) each
   where

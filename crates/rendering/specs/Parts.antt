@@ -31,11 +31,12 @@ abbrev pub printedDecoded : Decoded → List ℕ → List ℕ → List ℕ
 printedDecoded (Done a) numbers words = printedDone a numbers words
 printedDecoded (Refused refusal) numbers words = printedRefusal (number refusal)
 
--- an answer to at most 32 words
+-- an answer to at most 32 words, from a store of 512 states
 pub record Fits (a : Answer) : Type 0 where
   pub score : Within scoreBound (a .score)
   pub steps : a .steps ≤ 32
   pub words : a .words ≤ 256
+  pub states : a .states ≤ 512
 
 abbrev pub FitsDecoded : Decoded → Type 0
 FitsDecoded (Done a) = Fits a

@@ -12,6 +12,7 @@ ghost use Rattle.rendering.specs.Parts.{Begins, Fits, FitsDecoded, print
 use notes::Answer;
 use notes::Decoded;
 use notes::Read;
+use notes::Refusal;
 
 // Whether neither input has more bytes than the program takes.
 fn are_short(book: &[u8], direction: &[u8]) -> bool
@@ -50,7 +51,7 @@ fn put_decoded(out: &mut [u8], decoded: Decoded, numbers: &[u16], words: &[u16])
 {
     match decoded {
         Decoded::Done(answer) => put_done(out, answer, numbers, words),
-        Decoded::Refused(refusal) => printing::put_refusal(out, 0, notes::number_of(refusal)),
+        Decoded::Refused(refusal) => printing::put_refusal(out, 0, refusal),
     }
 }
 
@@ -75,7 +76,7 @@ fn put_direction(out: &mut [u8], book: &[i32], text: &[u8]) -> usize
     let mut words = [0u16; 32];
     match direction::read_direction(text, &mut words) {
         Read::Numbers(n) => put_decode(out, book, &words[..n]),
-        Read::Refused(refusal) => printing::put_refusal(out, 0, notes::number_of(refusal)),
+        Read::Refused(refusal) => printing::put_refusal(out, 0, refusal),
     }
 }
 
@@ -85,11 +86,11 @@ pub fn render(book: &[u8], direction: &[u8], out: &mut [u8; 4096]) -> usize
     ensures { λ r. ⌜ Begins (Renders (now (book .entry)) (now (direction .entry))) r (now (out .entry)) (now (out .exit)) ⌝ }
 {
     if !are_short(book, direction) {
-        return printing::put_refusal(out, 0, 7);
+        return printing::put_refusal(out, 0, Refusal::ListTooShort);
     }
     let mut loaded = [0i32; 8192];
     match reading::read_book(book, &mut loaded) {
         Read::Numbers(n) => put_direction(out, &loaded[..n], direction),
-        Read::Refused(refusal) => printing::put_refusal(out, 0, notes::number_of(refusal)),
+        Read::Refused(refusal) => printing::put_refusal(out, 0, refusal),
     }
 }

@@ -1,5 +1,5 @@
 -- One turn of each loop that reads the store, and what the loops come to: the best score of a set, and the search's answer.
-use mathlib.Core.Path.{_≡_, refl, sym, _∙_, ap}
+use mathlib.Core.Path.{_≡_, refl, sym, _∙_, ap, ap₂}
 use mathlib.Core.Bool.{Bool, true, false, cond}
 use mathlib.Core.List.{List, [], _∷_, map}
 use mathlib.Core.Option.{Option, some}
@@ -21,10 +21,12 @@ use Rattle.search_theory.specs.Loops.{pick, closing}
 use Rattle.search_theory.proofs.Array.{pick-at, pick-end}
 use Rattle.notes.specs.State.{Hyp, wordsCovered, isBetter}
 use Rattle.notes.specs.Search.{bestScore}
-use Rattle.store.specs.Store.{placeAt, surpasses}
+use Rattle.notes.specs.declared.State.{State}
+use Rattle.store.specs.Store.{placeAt}
+use Rattle.states.specs.Order.{surpasses}
 use Rattle.states.specs.Shows.{nobody, Lists}
 use Rattle.states.specs.Ghost.{inWidth}
-use Rattle.states.specs.Answer.{sized, raised, untaken, topFrom, beats, chosenOf, Below, noClose, picked}
+use Rattle.states.specs.Answer.{sized, raised, untaken, topFrom, closedAt, beats, chosenOf, Below, noClose, picked}
 use Rattle.store.specs.declared.Found.{Found}
 use Rattle.store.specs.declared.Found.the-variants.{At, Nothing}
 use Rattle.states.specs.declared.Top.{Top}
@@ -104,27 +106,32 @@ pub chosen-other : (n : ℕ) (st : List ℤ) (b : Found) (k : ℕ) → (placeAt 
 unfolding chosenOf
 chosen-other n st b k z = rw (ne-eqb (placeAt st k .size) n z)
 
-pub chosen-hit : (n : ℕ) (st : List ℤ) (b c : Found) (k : ℕ) → placeAt st k .size ≡ n → b ≡ c → beats st c k ≡ chosenOf n st b k
+pub chosen-hit : (n : ℕ) (st : List ℤ) (b c : Found) (k : ℕ) → placeAt st k .size ≡ n → b ≡ c → beats n st c k ≡ chosenOf n st b k
 unfolding chosenOf
-chosen-hit n st b c k z e = ap (λ (d : Found). beats st d k) (sym e) ∙ rw (eq-eqb (placeAt st k .size) n z)
+chosen-hit n st b c k z e = ap (λ (d : Found). beats n st d k) (sym e) ∙ rw (eq-eqb (placeAt st k .size) n z)
 
-pub beats-by : (st : List ℤ) (j k : ℕ) (b : Bool) → surpasses (placeAt st k .state) (placeAt st j .state) ≡ b → cond b (At k) (At j) ≡ beats st (At j) k
-beats-by st j k b e = rw e
+pub beats-by : (n : ℕ) (st : List ℤ) (j k : ℕ) (b : Bool) → surpasses (closedAt n (placeAt st k .state)) (closedAt n (placeAt st j .state)) ≡ b → cond b (At k) (At j) ≡ beats n st (At j) k
+beats-by n st j k b e = rw e
 
 below-on : (b : Found) (k : ℕ) → Below k b → Below (k + 1) b
 below-on Nothing k h = tt
 below-on (At j) k h = omega arith
 
-beats-below : (st : List ℤ) (b : Found) (k : ℕ) → Below k b → Below (k + 1) (beats st b k)
-beats-below st Nothing k h = omega arith
-beats-below st (At j) k h = bool-ind (surpasses (placeAt st k .state) (placeAt st j .state)) (λ c. Below (k + 1) (cond c (At k) (At j))) (λ _. omega arith) (λ _. omega arith)
+beats-below : (n : ℕ) (st : List ℤ) (b : Found) (k : ℕ) → Below k b → Below (k + 1) (beats n st b k)
+beats-below n st Nothing k h = omega arith
+beats-below n st (At j) k h = bool-ind (surpasses (closedAt n (placeAt st k .state)) (closedAt n (placeAt st j .state))) (λ c. Below (k + 1) (cond c (At k) (At j))) (λ _. omega arith) (λ _. omega arith)
 
 pub chosen-below : (n : ℕ) (st : List ℤ) (b : Found) (k : ℕ) → Below k b → Below (k + 1) (chosenOf n st b k)
 unfolding chosenOf
-chosen-below n st b k h = bool-ind (eqb (placeAt st k .size) n) (λ c. Below (k + 1) (cond c (beats st b k) b)) (λ _. beats-below st b k h) (λ _. below-on b k h)
+chosen-below n st b k h = bool-ind (eqb (placeAt st k .size) n) (λ c. Below (k + 1) (cond c (beats n st b k) b)) (λ _. beats-below n st b k h) (λ _. below-on b k h)
 
 -- a state gains nothing at the end
-pub closing-same : (s : Hyp) → closing noClose s ≡ s
+pub closed-same : (n : ℕ) (x : State) → x ≡ closedAt n x
+closed-same n x =
+    let e : x .score ≡ x .score +ℤ pos 0 = omega (arith, signed, sum (x .score) (pos 0)) in
+    λ i. record { word1 = x .word1; word2 = x .word2; covered = x .covered; r = x .r; score = e i }
+
+closing-same : (s : Hyp) → closing noClose s ≡ s
 closing-same s =
     let e : s .score +ℤ pos 0 ≡ s .score = omega (arith, signed, sum (s .score) (pos 0)) in
     λ i. record { key = s .key; score = e i; steps = s .steps }
@@ -133,19 +140,20 @@ module _ (n : ℕ) (st : List ℤ) (count : ℕ) (l : List Hyp) (L : Lists n st 
   abbrev best-of : Option Hyp → List Hyp → Option Hyp
   best-of = pick wordsCovered n noClose isBetter
 
-  beats-is : (b : Found) (k : ℕ) → Below k b → k < count → picked l (beats st b k) ≡ wins isBetter (picked l b) (getD l k nobody)
+  beats-is : (b : Found) (k : ℕ) → Below k b → k < count → picked l (beats n st b k) ≡ wins isBetter (picked l b) (getD l k nobody)
   unfolding isBetter
   beats-is Nothing k h m = refl
   beats-is (At j) k h m =
-      bool-ind (surpasses (placeAt st k .state) (placeAt st j .state)) (λ c. picked l (cond c (At k) (At j)) ≡ cond c (some (getD l k nobody)) (some (getD l j nobody))) (λ _. refl) (λ _. refl)
+      bool-ind (surpasses (closedAt n (placeAt st k .state)) (closedAt n (placeAt st j .state))) (λ c. picked l (cond c (At k) (At j)) ≡ cond c (some (getD l k nobody)) (some (getD l j nobody))) (λ _. refl) (λ _. refl)
       ∙ ap (λ (c : Bool). cond c (some (getD l k nobody)) (some (getD l j nobody)))
-      (ap (λ (z : ℤ). ltZ z (placeAt st k .state .score)) (L .each j (omega arith) .score-is) ∙ ap (ltZ (getD l j nobody .score)) (L .each k m .score-is))
+      (sym (ap₂ surpasses (closed-same n (placeAt st k .state)) (closed-same n (placeAt st j .state)))
+      ∙ ap (λ (z : ℤ). ltZ z (placeAt st k .state .score)) (L .each j (omega arith) .score-is) ∙ ap (ltZ (getD l j nobody .score)) (L .each k m .score-is))
 
   chosen-is : (b : Found) (k : ℕ) → Below k b → k < count
       → picked l (chosenOf n st b k) ≡ cond (eqb (wordsCovered (getD l k nobody .key)) n) (wins isBetter (picked l b) (closing noClose (getD l k nobody))) (picked l b)
   unfolding chosenOf
   chosen-is b k h m =
-      bool-ind (eqb (placeAt st k .size) n) (λ c. picked l (cond c (beats st b k) b) ≡ cond c (wins isBetter (picked l b) (getD l k nobody)) (picked l b)) (λ _. beats-is b k h m) (λ _. refl)
+      bool-ind (eqb (placeAt st k .size) n) (λ c. picked l (cond c (beats n st b k) b) ≡ cond c (wins isBetter (picked l b) (getD l k nobody)) (picked l b)) (λ _. beats-is b k h m) (λ _. refl)
       ∙ ap (λ (z : ℕ). cond (eqb z n) (wins isBetter (picked l b) (getD l k nobody)) (picked l b)) (size-at n st count l L k m)
       ∙ ap (λ (s : Hyp). cond (eqb (wordsCovered (getD l k nobody .key)) n) (wins isBetter (picked l b) s) (picked l b)) (sym (closing-same (getD l k nobody)))
 

@@ -35,15 +35,16 @@ use Rattle.notes.specs.Search.{fittingSteps, bestScore, isWithin, search}
 use Rattle.notes.proofs.Cover.{none-covered}
 use Rattle.notes.proofs.Instance.{legal-length, steady, score-within}
 use Rattle.notes.proofs.Ranges.{Ranged}
-use Rattle.store.specs.Store.{placeAt, isSame, Unseen, Met, Put, Indexed, AddedOf, IndexedAfter, Storable}
+use Rattle.store.specs.Store.{placeAt, isSame, Unseen, Put, Indexed, Storable}
+use Rattle.states.specs.Adding.{Met, AddedOf, IndexedAfter}
 use Rattle.notes.specs.Derivation.{noStep}
 use Rattle.states.specs.Shows.{nobody, Shows, Lists}
 use Rattle.states.specs.Ghost.{inWidth, optionAt, Held, Starting, Levelling, Growing, Chosen, topOf, After, Grew, Levelled, NextPlace}
 use Rattle.states.specs.Answer.{sized, noClose, picked}
 use Rattle.store.specs.declared.Place.{Place}
 use Rattle.store.specs.declared.Found.{Found}
-use Rattle.store.specs.declared.Added.{Added}
-use Rattle.store.specs.declared.Added.the-variants.{Replaced, Kept, Appended, Full}
+use Rattle.states.specs.declared.Added.{Added}
+use Rattle.states.specs.declared.Added.the-variants.{Replaced, Kept, Appended, Full}
 use Rattle.states.specs.declared.Grown.{Grown}
 use Rattle.states.specs.declared.Grown.the-variants.{On, Overflow}
 use Rattle.states.proofs.Showing.{same-place, storable, start-covered}

@@ -19,8 +19,8 @@ use Rattle.store.specs.Store.{placeAt, Indexed}
 use Rattle.notes.specs.Derivation.{noStep}
 use Rattle.states.specs.Shows.{nobody, Fine, Shows}
 use Rattle.store.specs.declared.Place.{Place}
-use Rattle.store.specs.declared.Added.{Added}
-use Rattle.store.specs.declared.Added.the-variants.{Replaced, Kept, Appended, Full}
+use Rattle.states.specs.declared.Added.{Added}
+use Rattle.states.specs.declared.Added.the-variants.{Replaced, Kept, Appended, Full}
 use Rattle.states.specs.declared.Grown.{Grown}
 use Rattle.states.specs.declared.Grown.the-variants.{On, Overflow}
 

@@ -1,6 +1,16 @@
-// The states of the search in the store: what its loops keep, and what they read off it.
+// The states of the search in the store: what its loops keep, what they add to it and what they read off it.
+pub mod adding;
+pub mod order;
 pub mod paths;
 pub mod reading;
+
+// What was done with a state: it took the place of an equal one, or the equal one stayed, or it is a new one, or there was no place left.
+pub enum Added {
+    Replaced,
+    Kept,
+    Appended,
+    Full,
+}
 
 // For the search's loops: how many states there are then, or the store is too small.
 pub enum Grown {

@@ -1,9 +1,9 @@
 // What the search reads off the store: the best score of a set, the beam's test, the best state.
 use crate::Top;
+use crate::order;
 use notes::State;
 use store::Found;
 use store::Place;
-use store::index;
 use store::places;
 ghost use mathlib.Core.Path.{_≡_};
 ghost use mathlib.Core.List.{List};
@@ -16,7 +16,7 @@ ghost use Rattle.notes.specs.State.{Hyp, wordsCovered, isBetter, scoreBound};
 ghost use Rattle.notes.specs.Search.{bestScore};
 ghost use Rattle.states.specs.Shows.{Lists};
 ghost use Rattle.states.specs.Ghost.{inWidth};
-ghost use Rattle.states.specs.Answer.{sized, raised, Below, chosenOf, noClose, picked};
+ghost use Rattle.states.specs.Answer.{sized, raised, closedAt, Below, chosenOf, noClose, picked};
 
 // The best score with that of x, if x covers i words.
 fn raise(top: Top, x: Place, i: usize) -> Top
@@ -68,7 +68,14 @@ pub fn is_within(top: i64, x: State, width: i64) -> bool
     }
 }
 
-// The better of a place and the place k, if that covers n words; the first of two that are equally good.
+// The state with what it gains at the end of the search, before the best one is picked: it gains nothing.
+fn closed(x: State) -> State
+    ensures { λ r. ⌜ ((n : ℕ) → r ≡ closedAt n x) ⌝ }
+{
+    x
+}
+
+// The better of a place and the place k, if that covers n words, with what their states gain at the end; the first of two that are equally good.
 fn better_of(store: &[i64], best: Found, k: usize, n: usize) -> Found
     requires { ⌜ 8 * k + 8 ≤ length (now store) ⌝ }
     requires { ⌜ Below k best ⌝ }
@@ -82,7 +89,7 @@ fn better_of(store: &[i64], best: Found, k: usize, n: usize) -> Found
         Found::Nothing => Found::At(k),
         Found::At(j) => {
             let y = places::place_at(store, j);
-            if index::is_better(x.state, y.state) {
+            if order::is_better(closed(x.state), closed(y.state)) {
                 Found::At(k)
             } else {
                 Found::At(j)

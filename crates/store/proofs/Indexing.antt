@@ -1,7 +1,7 @@
--- The index of the store: what find_equal keeps on its way along a chain, and that the index is kept by what add_place does.
+-- The index of the store: what find_equal keeps on its way along a chain, and that the index is kept where a place is put or appended.
 -- Which bucket a state lies in does not matter to any of it, but that equal states lie in the same.
 use mathlib.Core.Path.{_≡_, refl, sym, _∙_, ap, subst}
-use mathlib.Core.Bool.{Bool, true, false}
+use mathlib.Core.Bool.{true, false}
 use mathlib.Core.Logic.{_⊎_, inl, inr, ⊎-elim}
 use mathlib.Core.List.{List}
 use Prim.Native.Nat.{ℕ, zero, suc, _+_, _*_, _/_, _%_, _-_, _<_, _≤_, min}
@@ -18,9 +18,8 @@ use Rattle.laws.specs.Index.{Chained, inBucket, latest}
 use Rattle.laws.proofs.Index.{latest-none, latest-lt, latest-at, chained-none, chained-same, chained-more, walk-start, walk-step, walk-less, walk-out}
 use Rattle.laws.proofs.Tests.{both, by-test}
 use Rattle.notes.specs.declared.State.{State}
-use Rattle.store.specs.Store.{placeAt, headAt, linkAt, wordsOf, bucketOf, Way, Unseen, Indexed, Spare, Relinked, Put, isSame, Located, surpasses, Met, Zeroed, Clearing}
+use Rattle.store.specs.Store.{placeAt, headAt, linkAt, wordsOf, bucketOf, Way, Unseen, Indexed, Spare, Relinked, Put, isSame, Zeroed, Clearing}
 use Rattle.store.specs.declared.Place.{Place}
-use Rattle.store.specs.declared.Found.the-variants.{At}
 use Rattle.store.proofs.Writes.{places-same}
 
 -- a part of 2 ^ 32 as a part of m
@@ -69,10 +68,6 @@ module _ (st : List ℤ) (count : ℕ) (x : State) (J : Indexed st count) where
 
   pub way-ends : (at : ℕ) → Way st count x at → at ≤ 0 → Unseen st count x
   way-ends at w z k h = latest-none (λ k. isSame (placeAt st k .state) x) count (walk-out w z) k h
-
--- what the code has seen of an equal state y at the place k
-pub met : (st : List ℤ) (count : ℕ) (x : State) (k : ℕ) {b r : Bool} {y : Place} → Located st count x (At k) → y ≡ placeAt st k → r ≡ surpasses x (y .state) → r ≡ b → Met st count x k b
-met st count x k h e t q = record { inside = h .0; same = h .1; test = ap (λ (z : Place). surpasses x (z .state)) (sym e) ∙ sym t ∙ q }
 
 -- ---- the index after a change
 

@@ -7,7 +7,6 @@ use mathlib.Core.List.{List}
 use Prim.Native.Nat.{ℕ, _+_, _*_, _/_, _%_, _<_, _≤_, _^_, min}
 use lib.Dec.{eqb}
 use lib.IntN.{ℤ, pos}
-use lib.Signed.{ltZ}
 use lib.ListN.{length, getD}
 use Rattle.laws.specs.Integers.{natOf}
 use Rattle.laws.specs.Index.{Chained, Walk}
@@ -15,8 +14,6 @@ use Rattle.notes.specs.declared.State.{State}
 use Rattle.store.specs.declared.Place.{Place}
 use Rattle.store.specs.declared.Found.{Found}
 use Rattle.store.specs.declared.Found.the-variants.{At, Nothing}
-use Rattle.store.specs.declared.Added.{Added}
-use Rattle.store.specs.declared.Added.the-variants.{Replaced, Kept, Appended, Full}
 
 -- ---- reading
 
@@ -95,7 +92,7 @@ pub record Indexed (st : List ℤ) (count : ℕ) : Type 0 where
   pub past : (h : ℕ) → length st / 8 ≤ h → headAt st h ≡ 0
   pub chained : Chained (λ k. bucketOf (length st / 8) (placeAt st k .state)) (headAt st) (linkAt st) (length st / 8) count
 
--- ---- finding and adding
+-- ---- finding
 
 -- all but the scores agree
 unfoldable pub isSame : State → State → Bool
@@ -113,29 +110,6 @@ Unseen st count x = (k : ℕ) → k < count → isSame (placeAt st k .state) x �
 abbrev pub Located : List ℤ → ℕ → State → Found → Type 0
 Located st count x (At k) = (k < count) × (isSame (placeAt st k .state) x ≡ true)
 Located st count x Nothing = Unseen st count x
-
--- the new one takes the old one's place: a higher score
-abbrev pub surpasses : State → State → Bool
-surpasses new old = ltZ (old .score) (new .score)
-
--- an equal one was there, at k, and the test of the two came out as b
-pub record Met (st : List ℤ) (count : ℕ) (x : State) (k : ℕ) (b : Bool) : Type 0 where
-  pub inside : k < count
-  pub same : isSame (placeAt st k .state) x ≡ true
-  pub test : surpasses x (placeAt st k .state) ≡ b
-
-abbrev pub AddedOf : List ℤ → List ℤ → ℕ → Place → Added → Type 0
-AddedOf old new count x Replaced = (k : ℕ) × Met old count (x .state) k true × Put old new k x
-AddedOf old new count x Kept = (k : ℕ) × Met old count (x .state) k false × (new ≡ old)
-AddedOf old new count x Appended = Unseen old count (x .state) × (8 * count + 8 ≤ length old) × Put old new count x
-AddedOf old new count x Full = Unseen old count (x .state) × (length old < 8 * count + 8) × (new ≡ old)
-
--- and the index after it
-abbrev pub IndexedAfter : List ℤ → ℕ → Added → Type 0
-IndexedAfter st count Replaced = Indexed st count
-IndexedAfter st count Kept = Indexed st count
-IndexedAfter st count Appended = Indexed st (count + 1)
-IndexedAfter st count Full = Unit
 
 -- ---- clearing
 

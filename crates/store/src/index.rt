@@ -1,5 +1,4 @@
 // The index of the store: its states in chains, by bucket.
-use crate::Added;
 use crate::Found;
 use crate::Place;
 use crate::numbers;
@@ -8,7 +7,7 @@ use notes::State;
 ghost use mathlib.Core.Path.{_≡_};
 ghost use Prim.Native.Nat.{_+_, _*_, _/_, _%_, _<_, _≤_, min};
 ghost use lib.ListN.{length};
-ghost use Rattle.store.specs.Store.{placeAt, headAt, linkAt, bucketOf, Relinked, Put, Storable, Indexed, IndexedAfter, Located, AddedOf, surpasses};
+ghost use Rattle.store.specs.Store.{placeAt, headAt, linkAt, bucketOf, Relinked, Put, Storable, Indexed, Located};
 
 // The number's part of 2 ^ 32, mixed by an odd factor: each digit of the number counts in the high digits of the result.
 fn mixed(x: usize, factor: usize) -> usize
@@ -102,41 +101,4 @@ pub fn append_place(store: &mut [i64], count: usize, x: Place)
     places::put_place(store, count, x);
     let h = bucket(store.len() / 8, x.state);
     link_place(store, count, h);
-}
-
-// Of two equal states, the new one takes the old one's place.
-pub fn is_better(new: State, old: State) -> bool
-    ensures { λ r. ⌜ r ≡ surpasses new old ⌝ }
-{
-    let a = old.score;
-    let b = new.score;
-    a < b
-}
-
-// Adds x to the count states: it takes the place of an equal one if it is better, and a new place if there is no equal one.
-pub fn add_place(store: &mut [i64], count: usize, x: Place) -> Added
-    requires { ⌜ Indexed (now store) count ⌝ }
-    requires { ⌜ Storable x ⌝ }
-    ensures { λ r. ⌜ AddedOf (now (store .entry)) (now (store .exit)) count x r ⌝ }
-    ensures { λ r. ⌜ IndexedAfter (now (store .exit)) count r ⌝ }
-{
-    match find_equal(store, count, x.state) {
-        Found::At(k) => {
-            let old = places::place_at(store, k);
-            if is_better(x.state, old.state) {
-                places::put_place(store, k, x);
-                Added::Replaced
-            } else {
-                Added::Kept
-            }
-        }
-        Found::Nothing => {
-            if count < store.len() / 8 {
-                append_place(store, count, x);
-                Added::Appended
-            } else {
-                Added::Full
-            }
-        }
-    }
 }

@@ -21,11 +21,3 @@ pub enum Found {
     At(usize),
     Nothing,
 }
-
-// What was done with a state: it took the place of an equal one, or the equal one stayed, or it is a new one, or there was no place left.
-pub enum Added {
-    Replaced,
-    Kept,
-    Appended,
-    Full,
-}

@@ -6,7 +6,7 @@ use Rattle.extending.proofs.grow.Statement.{statement}
 use Rattle.extending.proofs.grow.Tie as tie
 use Rattle.extending.proofs.grow.Reads as reads
 use Rattle.extending.proofs.grow.Lts as lts
-use Rattle.store.proofs.index.add_place.Reads as add-place-reads
+use Rattle.states.proofs.adding.add_place.Reads as add-place-reads
 
 -- src/extend.rt:39:11
 add-place-requires : tie.Need-add-place-requires

@@ -1,4 +1,4 @@
--- A number from 1 to 19 fits.
+-- A number of two digits fits.
 use native.Mathlib.Omega.{arith}
 use mathlib.Core.Path.{ap, _∙_}
 use lib.IntN.{pos}
@@ -22,7 +22,7 @@ returns : tie.Need-returns
 returns c =
     let k = c .number-of .ensures in
     let h = number-to (c .before .args .refusal) in
-    nat w32 {B = 19} (omega arith) (omega arith) .is ∙ ap pos k
+    nat w32 {B = 99} (omega arith) (omega arith) .is ∙ ap pos k
 
 pub code-of-spec : {M : Type 1} → statement M
 code-of-spec = tie.close (tie.spec number-of-requires cast-result returns)

@@ -18,7 +18,7 @@ put-steps-requires c κs =
     let c3 = c .before .before .before in
     let s = c3 .before .before .before .before .before in
     let put = rw (toZ-ofZ (s .fits .score)) at (c3 .put-counts .ensures) in
-    (s .pre .1 .0, omega (arith, answer-long (s .args .score) (s .args .states) (s .args .plain .now) (s .args .count) (s .args .words .now), put))
+    (s .pre .1 .1 .0, omega (arith, answer-long (s .args .score) (s .args .states) (s .args .plain .now) (s .args .count) (s .args .words .now), put))
 
 put-words-requires : tie.Need-put-words-requires
 put-words-requires c κs =
@@ -26,7 +26,7 @@ put-words-requires c κs =
     let c7 = c3 .before .before .before .before in
     let s = c7 .before .before .before .before .before in
     let put = rw (toZ-ofZ (s .fits .score)) at (c7 .put-counts .ensures) in
-    omega (arith, answer-long (s .args .score) (s .args .states) (s .args .plain .now) (s .args .count) (s .args .words .now), put, c3 .put-steps .ensures)
+    (s .pre .1 .0, omega (arith, answer-long (s .args .score) (s .args .states) (s .args .plain .now) (s .args .count) (s .args .words .now), put, c3 .put-steps .ensures))
 
 same-length : tie.Need-same-length
 same-length c = search needs

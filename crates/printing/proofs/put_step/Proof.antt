@@ -1,50 +1,56 @@
--- The letter, and then the three numbers.
+-- The three numbers of a step fit, and are put as a line.
 use native.Mathlib.Omega.{arith}
-use mathlib.Core.Path.{sym}
-use Rattle.decimals.proofs.Laws.{put-is, put-then}
-use Rattle.printing.proofs.Lines.{line-3, line-3-long}
+use mathlib.Core.Path.{_≡_, ap}
+use mathlib.Core.List.{[], _∷_}
+use lib.IntN.{pos}
+use mir.Syntax.{w64}
+use mir.Val.{toZ}
+use Rattle.notes.specs.Render.{printedLine}
+use Rattle.decimals.proofs.Laws.{put-is}
+use Rattle.printing.proofs.Numbers.{none-put, and-put, nat-put, cast-is, line-asks}
 use borrow.Author.Needs.{needs}
 use Rattle.printing.proofs.put_step.Statement.{statement}
 use Rattle.printing.proofs.put_step.Tie as tie
 
-put-byte-requires : tie.Need-put-byte-requires
-put-byte-requires c κs =
-    let s = c .before .before in
-    omega (arith, line-3-long 83 (s .args .step .first) (s .args .step .last) (s .args .step .entry))
+-- the numbers that code holds are those of the line
+numbers-are : (s : tie.Start) → toZ w64 (s .args .step .first) ∷ toZ w64 (s .args .step .last) ∷ toZ w64 (s .args .step .entry) ∷ [] ≡ pos (s .args .step .first) ∷ pos (s .args .step .last) ∷ pos (s .args .step .entry) ∷ []
+numbers-are s =
+    let a = cast-is (s .args .step .first) (omega arith) in
+    let b = cast-is (s .args .step .last) (omega arith) in
+    let d = cast-is (s .args .step .entry) (omega arith) in
+    λ j. a j ∷ b j ∷ d j ∷ []
 
-cast-put-last-three : tie.Need-cast-put-last-three
-cast-put-last-three c = search needs
+cast-t5 : tie.Need-cast-t5
+cast-t5 c = search needs
 
-cast-put-last-three-2 : tie.Need-cast-put-last-three-2
-cast-put-last-three-2 c = search needs
+cast-t6 : tie.Need-cast-t6
+cast-t6 c = search needs
 
-cast-put-last-three-3 : tie.Need-cast-put-last-three-3
-cast-put-last-three-3 c = search needs
+cast-t7 : tie.Need-cast-t7
+cast-t7 c = search needs
 
-put-last-three-requires : tie.Need-put-last-three-requires
-put-last-three-requires c κs =
-    let c6 = c .before .before .before .before .before .before in
-    let s = c6 .before .before .before in
-    omega (arith, line-3-long 83 (s .args .step .first) (s .args .step .last) (s .args .step .entry), c6 .put-byte .ensures)
+slice-aggregate-put-line : tie.Need-slice-aggregate-put-line
+slice-aggregate-put-line c = search needs
+
+put-line-requires : tie.Need-put-line-requires
+put-line-requires c κs =
+    let s = c .before .before .before .before .before .before in
+    line-asks 83 (s .args .at) (numbers-are s) (and-put (nat-put _ (omega arith)) (and-put (nat-put _ (omega arith)) (and-put (nat-put _ (omega arith)) none-put))) (s .pre)
 
 same-length : tie.Need-same-length
 same-length c = search needs
 
 returns : tie.Need-returns
-returns c =
-    let c2 = c .before .before in
-    let c9 = c2 .before .before .before .before .before .before .before in
-    let s = c9 .before .before .before in
-    put-is (sym (line-3 83 (s .args .step .first) (s .args .step .last) (s .args .step .entry))) (put-then (c9 .put-byte .ensures) (c2 .put-last-three .ensures))
+returns c = put-is (ap (printedLine 83) (numbers-are (c .before .before .before .before .before .before .before .before .before))) (c .before .before .put-line .ensures)
 
 pub put-step-spec : {M : Type 1} → statement M
 put-step-spec =
     tie.close
     (tie.spec
-    put-byte-requires
-    cast-put-last-three
-    cast-put-last-three-2
-    cast-put-last-three-3
-    put-last-three-requires
+    cast-t5
+    cast-t6
+    cast-t7
+    slice-aggregate-put-line
+    put-line-requires
     same-length
     returns)

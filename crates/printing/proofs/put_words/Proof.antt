@@ -1,41 +1,45 @@
--- The letter, the fields of the words and the end make the line.
-use mathlib.Core.Path.{sym}
+-- The row holds the words as numbers, and its beginning is put as a line.
 use native.Mathlib.Omega.{arith}
-use Rattle.decimals.proofs.Laws.{put-is, put-then}
-use Rattle.printing.proofs.Lines.{line-of, line-of-long}
+use mathlib.Core.Path.{sym, ap}
+use lib.Seq.{length-take-le}
+use Rattle.notes.specs.Render.{printedLine}
+use Rattle.decimals.proofs.Laws.{put-is}
+use Rattle.printing.proofs.Numbers.{words-put, line-asks}
 use borrow.Author.Needs.{needs}
 use Rattle.printing.proofs.put_words.Statement.{statement}
 use Rattle.printing.proofs.put_words.Tie as tie
 
-put-byte-requires : tie.Need-put-byte-requires
-put-byte-requires c κs = omega (arith, line-of-long 87 (c .before .before .before .args .words .now))
+slice-aggregate-widen : tie.Need-slice-aggregate-widen
+slice-aggregate-widen c = search needs
 
-put-fields-requires : tie.Need-put-fields-requires
-put-fields-requires c κs =
-    let c3 = c .before .before .before in
-    let s = c3 .before .before .before .before in
-    omega (arith, line-of-long 87 (s .args .words .now), c3 .put-byte .ensures)
+widen-requires : tie.Need-widen-requires
+widen-requires c κs = c .before .before .before .pre .0
 
-put-byte-requires-2 : tie.Need-put-byte-requires-2
-put-byte-requires-2 c κs =
-    let c3 = c .before .before .before in
-    let c7 = c3 .before .before .before .before in
-    let s = c7 .before .before .before .before in
-    omega (arith, line-of-long 87 (s .args .words .now), c7 .put-byte .ensures, c3 .put-fields .ensures)
+array-share-prefix-row : tie.Need-array-share-prefix-row
+array-share-prefix-row c = search needs
+
+slice-aggregate-put-line : tie.Need-slice-aggregate-put-line
+slice-aggregate-put-line c = sym (length-take-le _ _ (array-share-prefix-row (c .before)))
+
+put-line-requires : tie.Need-put-line-requires
+put-line-requires c κs =
+    let s = c .before .before .before .before .before .before .before in
+    line-asks 87 (s .args .at) (c .before .before .before .widen .ensures) (words-put (s .args .words .now) (λ i. omega (arith, c .before .before .before .before .before .shared-slice-known .given i))) (s .pre .1)
 
 same-length : tie.Need-same-length
 same-length c = search needs
 
 returns : tie.Need-returns
-returns c =
-    let c2 = c .before .before in
-    let c6 = c2 .before .before .before .before in
-    let c10 = c6 .before .before .before .before in
-    let s = c10 .before .before .before .before in
-    put-is (sym (line-of 87 (s .args .words .now)))
-    (put-then (put-then (c10 .put-byte .ensures) (c6 .put-fields .ensures)) (c2 .put-byte2 .ensures))
+returns c = put-is (ap (printedLine 87) (c .before .before .before .before .before .before .widen .ensures)) (c .before .before .put-line .ensures)
 
 pub put-words-spec : {M : Type 1} → statement M
 put-words-spec =
     tie.close
-    (tie.spec put-byte-requires put-fields-requires put-byte-requires-2 same-length returns)
+    (tie.spec
+    slice-aggregate-widen
+    widen-requires
+    array-share-prefix-row
+    slice-aggregate-put-line
+    put-line-requires
+    same-length
+    returns)

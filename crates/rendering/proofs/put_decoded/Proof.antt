@@ -1,14 +1,10 @@
 -- Each reply with its lines.
-use Prim.Native.Nat.{ℕ}
-use mathlib.Core.Path.{sym, ap, subst}
+use mathlib.Core.Path.{sym, subst}
 use native.Mathlib.Omega.{arith}
-use lib.ListN.{length}
-use Rattle.notes.specs.Render.{printedRefusal}
 use Rattle.notes.specs.declared.Decoded.{Decoded}
 use Rattle.decimals.specs.Put.{Put}
-use Rattle.decimals.proofs.Laws.{put-is}
 use Rattle.rendering.specs.Parts.{FitsDecoded, printedDecoded}
-use Rattle.rendering.proofs.Short.{refusal-fits}
+use Rattle.printing.proofs.Lengths.{refusal-short}
 use borrow.Author.Needs.{needs}
 use Rattle.rendering.proofs.put_decoded.Statement.{statement}
 use Rattle.rendering.proofs.put_decoded.Tie as tie
@@ -25,13 +21,8 @@ put-done-requires c κs =
 enum-known-decoded-2 : tie.Need-enum-known-decoded-2
 enum-known-decoded-2 c = search needs
 
-number-of-requires : tie.Need-number-of-requires
-number-of-requires c κs = search needs
-
 put-refusal-requires : tie.Need-put-refusal-requires
-put-refusal-requires c κs =
-    let c3 = c .before .before .before in
-    omega (arith, ap (λ (k : ℕ). length (printedRefusal k)) (c .number-of .ensures), refusal-fits (c3 .decoded2 .given .0 .0))
+put-refusal-requires c κs = omega (arith, refusal-short (c .before .before .decoded2 .given .0 .0))
 
 same-length : tie.Need-same-length
 same-length c = search needs
@@ -47,11 +38,9 @@ same-length-2 c = search needs
 
 returns-2 : tie.Need-returns-2
 returns-2 c =
-    let c3 = c .before .before .before in
-    let c6 = c3 .before .before .before in
-    let s = c6 .before .before .before .before .before in
-    subst (λ (d : Decoded). Put (printedDecoded d (s .args .numbers .now) (s .args .words .now)) 0 (c .before .before .put-refusal .result) (s .args .out .now) (c .before .before .put-refusal .last .0)) (sym (c6 .decoded2 .given .1))
-    (put-is (ap printedRefusal (c3 .number-of .ensures)) (c .before .before .put-refusal .ensures))
+    let c5 = c .before .before .before .before .before in
+    let s = c5 .before .before .before .before .before in
+    subst (λ (d : Decoded). Put (printedDecoded d (s .args .numbers .now) (s .args .words .now)) 0 (c .before .before .put-refusal .result) (s .args .out .now) (c .before .before .put-refusal .last .0)) (sym (c5 .decoded2 .given .1)) (c .before .before .put-refusal .ensures)
 
 pub put-decoded-spec : {M : Type 1} → statement M
 put-decoded-spec =
@@ -60,7 +49,6 @@ put-decoded-spec =
     enum-known-decoded
     put-done-requires
     enum-known-decoded-2
-    number-of-requires
     put-refusal-requires
     same-length
     returns

@@ -1,14 +1,11 @@
 -- The words that were read are the direction's; a refusal's number is put.
-use Prim.Native.Nat.{ℕ}
-use mathlib.Core.Path.{sym, ap, _∙_}
+use mathlib.Core.Path.{sym}
 use native.Mathlib.Omega.{arith}
-use lib.ListN.{length}
 use lib.Seq.{length-take-le}
 use Rattle.notes.specs.Direction.{readDirectionRefusal, directionOf}
-use Rattle.notes.specs.Render.{printedRefusal}
 use Rattle.decimals.proofs.Laws.{put-first, put-rest}
 use Rattle.rendering.proofs.Inputs.{Filled, direction-filled, direction-refusal, direction-refused, direction-decoded}
-use Rattle.rendering.proofs.Short.{refusal-fits}
+use Rattle.printing.proofs.Lengths.{refusal-short}
 use borrow.Author.Needs.{needs}
 use Rattle.rendering.proofs.put_direction.Statement.{statement}
 use Rattle.rendering.proofs.put_direction.Tie as tie
@@ -41,13 +38,8 @@ put-decode-requires c κs = search needs
 enum-known-refusal : tie.Need-enum-known-refusal
 enum-known-refusal c = search needs
 
-number-of-requires : tie.Need-number-of-requires
-number-of-requires c κs = search needs
-
 put-refusal-requires : tie.Need-put-refusal-requires
-put-refusal-requires c κs =
-    let c3 = c .before .before .before in
-    omega (arith, ap (λ (k : ℕ). length (printedRefusal k)) (c .number-of .ensures), refusal-fits (c3 .refusal .given .0 .0))
+put-refusal-requires c κs = omega (arith, refusal-short (c .before .before .refusal .given .0 .0))
 
 same-length : tie.Need-same-length
 same-length c = search needs
@@ -65,15 +57,14 @@ same-length-2 c = search needs
 returns-2 : tie.Need-returns-2
 returns-2 c =
     let c2 = c .before .before in
-    let c3 = c2 .before in
-    let c6 = c3 .before .before .before in
+    let c5 = c2 .before .before .before in
     let p = put-first (c2 .put-refusal .ensures) in
     record {
       within = p .0;
       is =
-          direction-refused _ _ _ (c6 .refusal .given .0 .0)
-          (direction-refusal _ _ 32 _ (c6 .refusal .given .1) (c6 .before .before .before .read-direction .ensures .0))
-          (p .1 ∙ ap printedRefusal (c3 .number-of .ensures));
+          direction-refused _ _ _ (c5 .refusal .given .0 .0)
+          (direction-refusal _ _ 32 _ (c5 .refusal .given .1) (c5 .before .before .before .read-direction .ensures .0))
+          (p .1);
       rest = put-rest (c2 .put-refusal .ensures);
     }
 
@@ -88,7 +79,6 @@ put-direction-spec =
     slice-aggregate-put-decode
     put-decode-requires
     enum-known-refusal
-    number-of-requires
     put-refusal-requires
     same-length
     returns

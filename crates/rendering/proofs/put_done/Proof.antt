@@ -2,13 +2,12 @@
 use Prim.Native.Nat.{_≤_}
 use mathlib.Core.Path.{_≡_, sym}
 use native.Mathlib.Omega.{arith}
-use lib.ListN.{length}
+use lib.ListN.{length, take}
 use lib.Seq.{length-take-le}
 use mir.Syntax.{w64}
 use mir.Val.{toZ, ofZ}
-use Rattle.laws.proofs.Bounds.{within-mono}
 use Rattle.rendering.specs.Parts.{printedDone}
-use Rattle.rendering.proofs.Short.{done-short}
+use Rattle.rendering.proofs.Short.{done-printable, done-short}
 use borrow.Author.Needs.{needs}
 use Rattle.rendering.proofs.put_done.Statement.{statement}
 use Rattle.rendering.proofs.put_done.Tie as tie
@@ -22,8 +21,9 @@ put-answer-requires c κs =
     let s = c3 .before .before .before in
     let a = s .args .answer in
     let back : toZ w64 (ofZ w64 (a .score)) ≡ a .score = search needs in
-    let short : length (printedDone a (s .args .numbers .now) (s .args .words .now)) ≤ 4_096 = done-short a (s .args .numbers .now) (s .args .words .now) (s .pre .1 .0) (search needs) (λ i. omega (arith, c3 .before .shared-slice-known .given i)) (λ i. omega (arith, c3 .shared-slice-known2 .given i)) in
-    rw back (within-mono (omega arith) (s .pre .1 .0 .score), (omega arith, omega arith))
+    let short : length (printedDone a (s .args .numbers .now) (s .args .words .now)) ≤ 4_096 = done-short a (s .args .numbers .now) (s .args .words .now) (s .pre .1 .0) (λ i. omega (arith, c3 .before .shared-slice-known .given i)) (λ i. omega (arith, c3 .shared-slice-known2 .given i)) in
+    let few : length (take (a .words) (s .args .words .now)) ≡ a .words = length-take-le _ _ (omega arith) in
+    rw (back, few) (done-printable a (s .pre .1 .0), (omega arith, (omega arith, omega arith)))
 
 same-length : tie.Need-same-length
 same-length c = search needs

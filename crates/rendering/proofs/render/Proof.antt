@@ -1,6 +1,6 @@
 -- The two lengths, then the book, then the direction: each refusal is put, and what follows a book that was read is the direction's.
-use Prim.Native.Nat.{ℕ, _≤_}
-use mathlib.Core.Path.{_≡_, sym, ap, _∙_}
+use Prim.Native.Nat.{_≤_}
+use mathlib.Core.Path.{_≡_, sym, _∙_}
 use mathlib.Core.Bool.{true, _&&_}
 use native.Mathlib.Omega.{arith}
 use borrow.Author.Tests.{not-true, not-false}
@@ -8,11 +8,10 @@ use lib.Dec.{leb}
 use lib.ListN.{length}
 use lib.Seq.{length-take-le}
 use Rattle.notes.specs.Book.{loadedOf, readRefusal}
-use Rattle.notes.specs.Render.{printedRefusal}
 use Rattle.notes.specs.declared.Refusal.the-variants.{ListTooShort}
 use Rattle.decimals.proofs.Laws.{put-first, put-rest}
 use Rattle.rendering.proofs.Inputs.{Filled, book-filled, book-refusal, too-long, book-refused, book-read}
-use Rattle.rendering.proofs.Short.{refusal-fits}
+use Rattle.printing.proofs.Lengths.{refusal-short}
 use borrow.Author.Needs.{needs}
 use Rattle.rendering.proofs.render.Statement.{statement}
 use Rattle.rendering.proofs.render.Tie as tie
@@ -33,7 +32,7 @@ are-short-requires c κs = search needs
 put-refusal-requires : tie.Need-put-refusal-requires
 put-refusal-requires c κs =
     let room : 4_096 ≤ length (c .before .before .before .before .before .args .out .now) = search needs in
-    omega (arith, refusal-fits ListTooShort)
+    omega (arith, refusal-short ListTooShort)
 
 returns : tie.Need-returns
 returns c =
@@ -62,14 +61,11 @@ put-direction-requires c κs = search needs
 enum-known-refusal : tie.Need-enum-known-refusal
 enum-known-refusal c = search needs
 
-number-of-requires : tie.Need-number-of-requires
-number-of-requires c κs = search needs
-
 put-refusal-requires-2 : tie.Need-put-refusal-requires-2
 put-refusal-requires-2 c κs =
-    let c3 = c .before .before .before in
-    let room : 4_096 ≤ length (c3 .before .before .before .before .before .before .before .before .before .args .out .now) = search needs in
-    omega (arith, ap (λ (k : ℕ). length (printedRefusal k)) (c .number-of .ensures), refusal-fits (c3 .refusal .given .0 .0))
+    let c2 = c .before .before in
+    let room : 4_096 ≤ length (c2 .before .before .before .before .before .before .before .before .before .args .out .now) = search needs in
+    omega (arith, refusal-short (c2 .refusal .given .0 .0))
 
 returns-2 : tie.Need-returns-2
 returns-2 c =
@@ -79,15 +75,14 @@ returns-2 c =
 
 returns-3 : tie.Need-returns-3
 returns-3 c =
-    let c1 = c .before in
-    let c4 = c1 .before .before .before in
+    let c3 = c .before .before .before in
     let p = put-first (c .put-refusal2 .ensures) in
     record {
       within = p .0;
       is =
-          book-refused _ _ _ (was-short (c4 .before .before .before .before .before)) (c4 .refusal .given .0 .0)
-          (book-refusal _ _ 8_192 _ (c4 .refusal .given .1) (c4 .before .before .before .read-book .ensures .0))
-          (p .1 ∙ ap printedRefusal (c1 .number-of .ensures));
+          book-refused _ _ _ (was-short (c3 .before .before .before .before .before)) (c3 .refusal .given .0 .0)
+          (book-refusal _ _ 8_192 _ (c3 .refusal .given .1) (c3 .before .before .before .read-book .ensures .0))
+          (p .1);
       rest = put-rest (c .put-refusal2 .ensures);
     }
 
@@ -105,7 +100,6 @@ render-spec =
     slice-aggregate-put-direction
     put-direction-requires
     enum-known-refusal
-    number-of-requires
     put-refusal-requires-2
     returns-2
     returns-3)

@@ -1,12 +1,13 @@
 -- What find_equal answers decides: an equal state is overwritten or stays, a new one is appended where there is room.
 use mathlib.Core.Path.{refl}
 use native.Mathlib.Omega.{arith}
 use Rattle.store.specs.Store.{Located, Unseen}
 use Rattle.store.specs.declared.Found.the-variants.{At}
-use Rattle.store.proofs.Indexing.{met, indexed-set}
+use Rattle.store.proofs.Indexing.{indexed-set}
+use Rattle.states.proofs.Equals.{met}
 use borrow.Author.Needs.{needs}
-use Rattle.store.proofs.index.add_place.Statement.{statement}
-use Rattle.store.proofs.index.add_place.Tie as tie
+use Rattle.states.proofs.adding.add_place.Statement.{statement}
+use Rattle.states.proofs.adding.add_place.Tie as tie
 
 -- what the two arms of the match know
 hit : (c : tie.After-k) → Located (c .before .before .before .before .args .store .now) (c .before .before .before .before .args .count) (c .before .before .before .before .args .x .state) (At (c .k .given .0 .0))
