@@ -30,24 +30,24 @@ free-runs-requires c κs = search needs
 
 -- src/lib.rt:233:5
 loop-holds : tie.Need-loop-holds Inv-loop μ-loop
-loop-holds c = let s = c .before .before .before .before .before .before .before in (omega arith, (refl, rw (sym (s .pre .0 .choices .options-of .begins)) at (s .pre .1 .1)))
+loop-holds c = let s = c .before .before .before .before in (omega arith, (refl, rw (sym (s .pre .0 .choices .options-of .begins)) at (s .pre .1 .1)))
 
 -- src/lib.rt:236:20
-add-t19 : tie.Need-add-t19 Inv-loop μ-loop
-add-t19 c = search needs
+add-t16 : tie.Need-add-t16 Inv-loop μ-loop
+add-t16 c = search needs
 
 -- src/lib.rt:237:18
-array-read-t22 : tie.Need-array-read-t22 Inv-loop μ-loop
-array-read-t22 c = search needs
+array-read-t19 : tie.Need-array-read-t19 Inv-loop μ-loop
+array-read-t19 c = search needs
 
 -- src/lib.rt:237:18
-cast-t23 : tie.Need-cast-t23 Inv-loop μ-loop
-cast-t23 c = search needs
+cast-t20 : tie.Need-cast-t20 Inv-loop μ-loop
+cast-t20 c = search needs
 
 -- src/lib.rt:239:31
 extend-from-requires : tie.Need-extend-from-requires Inv-loop μ-loop
 extend-from-requires c κs =
-    let s = c .before .before .before .before .before .before .before .before .before .before .before in
+    let s = c .before .before .before .before .before .before .before .before in
     let l = c .before .before .before .loop in
     let z : l .i ≡ l .i + 1 - 1 = omega arith in
     (s .pre .0, (spot-at (s .pre .0) (s .pre .1 .0 .0) (s .pre .1 .0 .1) _ (c .before .before .before .before .before .free-runs .ensures) (l .i) (c .before .if1 .taken), rw z at (l .inv .1 .1)))
@@ -86,7 +86,8 @@ same-length-2 c = search needs
 
 -- src/lib.rt:211:1
 returns-2 : tie.Need-returns-2 Inv-loop μ-loop
-returns-2 c = let s = c .before .before .before .before .before .before .before .before .before .before in let l = c .before .before .loop in ended _ _ _ (all-done (s .pre .0) (l .i) (l .inv .0) (c .if1 .left)) (l .inv .1 .1)
+returns-2 c = let s = c .before .before .before .before .before .before .before in let l = c .before .before .loop in ended _ _ _ (all-done (s .pre .0) (l .i) (l .inv .0) (c .if1 .left)) (l .inv .1 .1)
+
 
 pub extend-all-spec : {M : Type 1} → statement M
 extend-all-spec =
@@ -96,9 +97,9 @@ extend-all-spec =
     μ-loop
     free-runs-requires
     loop-holds
-    add-t19
-    array-read-t22
-    cast-t23
+    add-t16
+    array-read-t19
+    cast-t20
     extend-from-requires
     enum-known-more
     enum-told

@@ -11,7 +11,7 @@ use Rattle.extending.proofs.extend_at.Reads as extend-at-reads
 
 -- src/lib.rt:190:9
 returns : tie.Need-returns
-returns c = let b = c .before .before .before .before .before .before .before in covered-skips (b .pre .0) (b .pre .1 .0) (c .if1 .taken) (b .pre .1 .1)
+returns c = let b = c .before .before .before .before in covered-skips (b .pre .0) (b .pre .1 .0) (c .if1 .taken) (b .pre .1 .1)
 
 -- src/lib.rt:192:48
 cast-jump : tie.Need-cast-jump
@@ -23,11 +23,11 @@ jump-requires c κs = search needs
 
 -- src/lib.rt:193:9
 returns-2 : tie.Need-returns-2
-returns-2 c = let b = c .before .before .before .before .before .before .before .before .before .before .before in far-skips (b .pre .0) (b .pre .1 .0) (let h = c .if2 .taken in let e = c .before .before .jump .ensures in omega arith) (b .pre .1 .1)
+returns-2 c = let b = c .before .before .before .before .before .before .before .before in far-skips (b .pre .0) (b .pre .1 .0) (let h = c .if2 .taken in let e = c .before .before .jump .ensures in omega arith) (b .pre .1 .1)
 
 -- src/lib.rt:195:5
 extend-at-requires : tie.Need-extend-at-requires
-extend-at-requires c κs = let b = c .before .before .before .before .before .before .before .before .before .before .before .before in (b .pre .0, ((b .pre .1 .0, let h = c .before .if2 .left in let e = c .before .before .before .jump .ensures in omega arith), b .pre .1 .1))
+extend-at-requires c κs = let b = c .before .before .before .before .before .before .before .before .before in (b .pre .0, ((b .pre .1 .0, let h = c .before .if2 .left in let e = c .before .before .before .jump .ensures in omega arith), b .pre .1 .1))
 
 -- src/lib.rt:171:1
 same-length : tie.Need-same-length
