@@ -2,7 +2,8 @@
 use answer::Core;
 use decoder::decode;
 use extending::Job;
-use prepare::Start;
+use book::entries::INDEX_SIZE;
+use opening::Start;
 ghost use Rattle.decoder.specs.Core.{CoreDecodes};
 
 // Questions 2 to 6, 9 and 10, then 11 to 15 and the answer, for a step list of `room` places.
@@ -16,28 +17,15 @@ pub fn decode_plain(
 ) -> Core
     ensures { λ r. ⌜ CoreDecodes (now (book .entry)) (now (direction .entry)) width room (now (words .entry)) (now (words .exit)) (now (store .entry)) (now (store .exit)) r ⌝ }
 {
-    let mut grams = [0i32; 32768];
-    let mut heads = [0u16; 8192];
-    let mut links = [0u16; 8192];
-    let mut entries = [0usize; 4096];
+    let mut index = [0i32; INDEX_SIZE];
     let mut options = [0u16; 131138];
-    match prepare::prepare(
-        book,
-        direction,
-        &mut grams,
-        &mut heads,
-        &mut links,
-        &mut entries,
-    ) {
+    match opening::open_and_begin(book, direction, &mut index) {
         Start::Ready(task) => {
             let job = Job { task, width };
             decode::decode_with(
                 book,
                 direction,
-                &entries,
-                &grams,
-                &heads,
-                &links,
+                &index,
                 &mut options,
                 job,
                 room,

@@ -1,6 +1,7 @@
 // Scoring a proposed list on plain numbers, with what the book and the direction say in local arrays: about 200,000 bytes of stack.
 use notes::Scored;
-use prepare::Start;
+use book::entries::INDEX_SIZE;
+use opening::Start;
 use records::Plain;
 ghost use mathlib.Core.Path.{_≡_};
 ghost use Prim.Native.Nat.{_≤_};
@@ -12,26 +13,13 @@ pub fn score_plain(book: &[i32], direction: &[u16], plain: Plain) -> Scored
     requires { ⌜ plain .count ≤ 33 ⌝ }
     ensures { λ r. ⌜ scoredReply r ≡ scoreProposal (now (book .entry)) (now (direction .entry)) (stepsOf plain) ⌝ }
 {
-    let mut grams = [0i32; 32768];
-    let mut heads = [0u16; 8192];
-    let mut links = [0u16; 8192];
-    let mut entries = [0usize; 4096];
+    let mut index = [0i32; INDEX_SIZE];
     let steps = plain.numbers;
     let count = plain.count;
-    match prepare::prepare(
-        book,
-        direction,
-        &mut grams,
-        &mut heads,
-        &mut links,
-        &mut entries,
-    ) {
+    match opening::open_and_begin(book, direction, &mut index) {
         Start::Ready(t) => proposal::score_steps(
             book,
-            &entries,
-            &grams,
-            &heads,
-            &links,
+            &index,
             t,
             direction,
             &steps,

@@ -9,27 +9,27 @@ use Rattle.plain.proofs.decode_plain.Reads as reads
 use Rattle.plain.proofs.decode_plain.Lts as lts
 use Rattle.decoder.proofs.decode.decode_with.Reads as decode-with-reads
 use Rattle.decoder.proofs.decode.refused.Reads as refused-reads
-use Rattle.prepare.proofs.prepare.Reads as prepare-reads
+use Rattle.opening.proofs.prepare.Reads as prepare-reads
 
 -- src/lib.rt:27:9
-slice-aggregate-prepare : tie.Need-slice-aggregate-prepare
-slice-aggregate-prepare c = search needs
+slice-aggregate-open-and-begin : tie.Need-slice-aggregate-open-and-begin
+slice-aggregate-open-and-begin c = search needs
 
 -- src/lib.rt:28:9
-slice-aggregate-prepare-2 : tie.Need-slice-aggregate-prepare-2
-slice-aggregate-prepare-2 c = search needs
+slice-aggregate-open-and-begin-2 : tie.Need-slice-aggregate-open-and-begin-2
+slice-aggregate-open-and-begin-2 c = search needs
 
 -- src/lib.rt:29:9
-slice-aggregate-prepare-3 : tie.Need-slice-aggregate-prepare-3
-slice-aggregate-prepare-3 c = search needs
+slice-aggregate-open-and-begin-3 : tie.Need-slice-aggregate-open-and-begin-3
+slice-aggregate-open-and-begin-3 c = search needs
 
 -- src/lib.rt:30:9
-slice-aggregate-prepare-4 : tie.Need-slice-aggregate-prepare-4
-slice-aggregate-prepare-4 c = search needs
+slice-aggregate-open-and-begin-4 : tie.Need-slice-aggregate-open-and-begin-4
+slice-aggregate-open-and-begin-4 c = search needs
 
 -- src/lib.rt:24:11
-prepare-requires : tie.Need-prepare-requires
-prepare-requires c κs = search needs
+open-and-begin-requires : tie.Need-open-and-begin-requires
+open-and-begin-requires c κs = search needs
 
 -- src/lib.rt:32:22
 enum-known-task : tie.Need-enum-known-task
@@ -57,7 +57,7 @@ slice-aggregate-decode-with-5 c = search needs
 
 -- src/lib.rt:34:13
 decode-with-requires : tie.Need-decode-with-requires
-decode-with-requires c κs = let s = rw (c .before .before .before .before .before .before .before .before .task .given .1) at (c .before .before .before .before .before .before .before .before .before .before .before .before .before .before .prepare .ensures) in (s .prepared, ((s .entries-at, s .entries-room), omega arith))
+decode-with-requires c κs = let s = rw (c .before .before .before .before .before .before .before .before .task .given .1) at (c .before .before .before .before .before .before .before .before .before .before .before .before .before .before .open-and-begin .ensures) in (s .prepared, ((s .entries-at, s .entries-room), omega arith))
 
 -- src/lib.rt:48:24
 enum-known-refusal : tie.Need-enum-known-refusal
@@ -81,17 +81,17 @@ returns c = rw (toZ-ofZ (c .before .before .before .before .before .before .befo
 
 -- src/lib.rt:9:1
 returns-2 : tie.Need-returns-2
-returns-2 c = refused-core _ _ _ _ _ _ _ (rw (c .before .before .refusal .given .1) at (c .before .before .before .before .before .before .before .before .prepare .ensures)) (c .refused .ensures)
+returns-2 c = refused-core _ _ _ _ _ _ _ (rw (c .before .before .refusal .given .1) at (c .before .before .before .before .before .before .before .before .open-and-begin .ensures)) (c .refused .ensures)
 
 pub decode-plain-spec : {M : Type 1} → statement M
 decode-plain-spec =
     tie.close
     (tie.spec
-    slice-aggregate-prepare
-    slice-aggregate-prepare-2
-    slice-aggregate-prepare-3
-    slice-aggregate-prepare-4
-    prepare-requires
+    slice-aggregate-open-and-begin
+    slice-aggregate-open-and-begin-2
+    slice-aggregate-open-and-begin-3
+    slice-aggregate-open-and-begin-4
+    open-and-begin-requires
     enum-known-task
     slice-aggregate-decode-with
     slice-aggregate-decode-with-2

@@ -1,4 +1,4 @@
--- The B line stands at the front of the list; and a book that was loaded has the model of its triples.
+-- The B line stands at the front of the list; and a book that is open has the model of its triples.
 use Prim.Native.Nat.{ℕ, _<_, _≤_, _+_}
 use native.Mathlib.Omega.{arith}
 use mathlib.Core.Path.{_≡_, refl, sym, _∙_, ap, ap₂, subst}
@@ -14,18 +14,23 @@ use Rattle.notes.specs.Derivation.{listedScore, tripleScore}
 use Rattle.notes.specs.declared.Refusal.{Refusal}
 use Rattle.notes.proofs.Ranges.{lines-passed, loaded-ranged}
 use Rattle.notes.proofs.Bounds.{triple-within}
-use Rattle.triples.specs.Grams.{triplesIn, Indexed}
+use Rattle.laws.specs.Lists.{noneTwice}
+use Rattle.ngrams.specs.Grams.{triplesIn, sameKey, Indexed}
+use Rattle.ngrams.proofs.Index.{below-indexed}
+use Rattle.ngrams.proofs.Differ.{below-keys, below-triples}
 use Rattle.book.specs.declared.survey.Survey.{Survey}
 use Rattle.book.specs.Loaded.{sizeAt}
-use Rattle.book.specs.Entries.{EntriesAt}
+use Rattle.book.specs.Entries.{EntriesAt, Placed}
 use Rattle.book.proofs.Cuts.{LineAt, line-here, line-number, lines-end}
-use Rattle.loading.specs.Loaded.{Ready}
+use Rattle.loading.specs.Loaded.{Known}
 use Rattle.notes.proofs.Numbered.{number-from, refused-first}
 use Rattle.derivation.specs.declared.Task.{Task}
 use Rattle.derivation.specs.Model.{Model, modelScore}
-use Rattle.prepare.specs.declared.Start.{Start}
-use Rattle.prepare.specs.declared.Start.the-variants.{Ready as Prepares, Refused}
-use Rattle.prepare.specs.Start.{TaskOf, Numbered, Begun, Started, StartOf}
+use Rattle.derivation.specs.Prepared.{Prepared}
+use Rattle.opening.specs.declared.Counts.{Counts}
+use Rattle.opening.specs.declared.Start.{Start}
+use Rattle.opening.specs.declared.Start.the-variants.{Ready, Refused}
+use Rattle.opening.specs.Opening.{TaskOf, Open, BegunAs, StartOf}
 
 -- ════ the B line
 
@@ -72,9 +77,9 @@ module _ (loaded : List ℤ) (passed : bookRefusal loaded ≡ 0) where
   unseen-small = subst (Within 1_000_000) unseen-read (loaded-ranged loaded passed .unseen-within)
 
   -- the numbers that code reads there
-  pub task-is : (n phrases triples limit : ℕ) (eta unseen : ℤ) → limit ≡ naturalAt loaded 1 → eta ≡ numberAt loaded 2 → unseen ≡ numberAt loaded 3
-      → TaskOf (bookOf loaded) n phrases triples (record { n = n; limit = limit; eta = eta; unseen = unseen; phrases = phrases; triples = triples })
-  task-is n phrases triples limit eta unseen a b c = record {
+  pub task-is : (n : ℕ) (counts : Counts) (limit : ℕ) (eta unseen : ℤ) → limit ≡ naturalAt loaded 1 → eta ≡ numberAt loaded 2 → unseen ≡ numberAt loaded 3
+      → TaskOf (bookOf loaded) n counts (record { n = n; limit = limit; eta = eta; unseen = unseen; phrases = counts .phrases; triples = counts .triples })
+  task-is n counts limit eta unseen a b c = record {
     n-is = refl;
     limit-is = a ∙ sym limit-read;
     eta-is = b ∙ sym eta-read;
@@ -83,57 +88,55 @@ module _ (loaded : List ℤ) (passed : bookRefusal loaded ≡ 0) where
     triples-are = refl;
   }
 
--- ════ questions 9 and 10
-
--- they pass: the entries found and the numbers read are what is needed of them
-pub numbered : {loaded : List ℤ} {direction : List ℕ} {phrases triples : ℕ} {entries : List ℕ} {t : Task} → directionRefusal direction ≡ 0
-    → TaskOf (bookOf loaded) (length direction) phrases triples t → EntriesAt loaded entries phrases → Numbered loaded direction triples entries t
-unfolding wordCount
-numbered {loaded} {direction} {phrases} {triples} {entries} d k e = record {
-  directed = d;
-  task = record { n-is = k .n-is; limit-is = k .limit-is; eta-is = k .eta-is; unseen-is = k .unseen-is; phrases-are = refl; triples-are = k .triples-are };
-  entries-at = subst (EntriesAt loaded entries) (sym (k .phrases-are)) e;
-}
-
 -- ════ the model
 
-module _ {loaded : List ℤ} {direction : List ℕ} {grams : List ℤ} {heads links : List ℕ} {s : Survey} {entries : List ℕ} {t : Task}
-    (r : Ready (bookRefusal loaded) (bookOf loaded) grams heads links s) (b : Numbered loaded direction (s .ts) entries t) where
+module _ {loaded index : List ℤ} {counts : Counts} {t : Task} (direction : List ℕ) (o : Open loaded index counts) (d : directionRefusal direction ≡ 0)
+    (k : TaskOf (bookOf loaded) (length direction) counts t) where
   -- the triples in the list are the book's
-  listed : triplesIn grams (t .triples) ≡ bookOf loaded .triples
-  listed = ap (triplesIn grams) (b .task .triples-are) ∙ r .triples-are
+  listed : triplesIn index (t .triples) ≡ bookOf loaded .triples
+  listed = ap (triplesIn index) (k .triples-are) ∙ o .triples-are
 
-  -- so the score of a triple by the lists is its score by the book
-  same-score : (v w y : ℕ) → modelScore grams t v w y ≡ tripleScore (bookOf loaded) v w y
+  -- so the score of a triple by the list is its score by the book
+  same-score : (v w y : ℕ) → modelScore index t v w y ≡ tripleScore (bookOf loaded) v w y
   unfolding modelScore tripleScore
-  same-score v w y = ap₂ (listedScore v w y) (b .task .unseen-is) listed
+  same-score v w y = ap₂ (listedScore v w y) (k .unseen-is) listed
 
-  -- they are an index of triples, no two alike, with scores in their range
-  modelled : Model grams heads links t
+  -- they are indexed, no two alike, with scores in their range
+  modelled : Model index t
   modelled = record {
-    indexed = subst (Indexed grams heads links) (sym (b .task .triples-are)) (r .indexed);
-    different = rw (b .task .triples-are) (r .different);
-    scores-within = λ v w y. subst (Within 1_000_000) (sym (same-score v w y)) (triple-within (bookOf loaded) (loaded-ranged loaded (r .passes)) v w y);
+    indexed = subst (Indexed index) (sym (k .triples-are)) (o .indexed);
+    different = rw (k .triples-are) (o .different);
+    scores-within = λ v w y. subst (Within 1_000_000) (sym (same-score v w y)) (triple-within (bookOf loaded) (loaded-ranged loaded (o .passed)) v w y);
   }
 
   -- all that a search or a score asks for
-  pub started : 4_096 ≤ length entries → Started loaded direction grams heads links entries t
-  started room = record {
-    passed = r .passes;
-    directed = b .directed;
-    prepared = record {
-      passed = r .passes;
-      directed = b .directed;
-      model = modelled;
-      scores-are = same-score;
-      n-is = b .task .n-is;
-      limit-is = b .task .limit-is;
-      eta-is = b .task .eta-is;
-      phrases-are = b .entries-at .counted;
-    };
-    entries-at = b .entries-at;
-    entries-room = let f = b .entries-at .few in omega arith;
+  pub prepared : Prepared loaded direction index t
+  unfolding wordCount
+  prepared = record {
+    passed = o .passed;
+    directed = d;
+    model = modelled;
+    scores-are = same-score;
+    n-is = k .n-is;
+    limit-is = k .limit-is;
+    eta-is = k .eta-is;
+    entries-at = subst (EntriesAt loaded index) (sym (k .phrases-are)) (o .entries-at);
   }
+
+-- ════ the book is open
+
+-- the places of the entries were put behind what loading left
+pub opened : {loaded before after : List ℤ} {s : Survey} {phrases : ℕ} → Known (bookRefusal loaded) (bookOf loaded) before s → Placed loaded before after phrases
+    → Open loaded after (record { phrases = phrases; triples = s .ts })
+opened {s} r p =
+    let few = r .indexed .room .few in
+    record {
+      passed = r .passes;
+      triples-are = below-triples (p .kept) (s .ts) few ∙ r .triples-are;
+      different = ap (noneTwice sameKey) (below-keys (p .kept) (s .ts) few) ∙ r .different;
+      indexed = below-indexed (p .kept) (r .indexed);
+      entries-at = p .entries;
+    }
 
 -- ════ what the questions answer
 
@@ -146,8 +149,6 @@ pub direction-refuses : (k m : ℕ) (refusal : Refusal) → k ≡ 0 → m ≡ nu
 direction-refuses k m refusal p e = ap (λ (j : ℕ). j orelse m) p ∙ e
 
 -- after a book that passed, what 9 and 10 answer is the answer
-pub begun-starts : (loaded : List ℤ) (direction : List ℕ) {grams : List ℤ} {heads links : List ℕ} {s : Survey} (entries : List ℕ) (r : Start)
-    → Ready (bookRefusal loaded) (bookOf loaded) grams heads links s → 4_096 ≤ length entries → Begun loaded direction (s .ts) entries r
-    → StartOf loaded direction grams heads links entries r
-begun-starts loaded direction entries (Prepares t) r room b = started r b room
-begun-starts loaded direction entries (Refused refusal) r room b = direction-refuses (bookRefusal loaded) (directionRefusal direction) refusal (r .passes) b
+pub begun-starts : (loaded : List ℤ) (direction : List ℕ) (index : List ℤ) (r : Start) → bookRefusal loaded ≡ 0 → BegunAs loaded direction index r → StartOf loaded direction index r
+begun-starts loaded direction index (Ready t) p b = b
+begun-starts loaded direction index (Refused refusal) p b = direction-refuses (bookRefusal loaded) (directionRefusal direction) refusal p b

@@ -7,9 +7,9 @@ use mir.Facts.{toZ-ofZ}
 use Rattle.laws.specs.Integers.{Within}
 use Rattle.laws.proofs.Bounds.{within-fits}
 use Rattle.laws.proofs.Got.{i32}
-use Rattle.prepare.proofs.Starting.{task-is, eta-small, unseen-small}
-use Rattle.prepare.proofs.task_of.Statement.{statement}
-use Rattle.prepare.proofs.task_of.Tie as tie
+use Rattle.opening.proofs.Starting.{task-is, eta-small, unseen-small}
+use Rattle.opening.proofs.task_of.Statement.{statement}
+use Rattle.opening.proofs.task_of.Tie as tie
 
 natural-at-requires : tie.Need-natural-at-requires
 natural-at-requires c κs = search needs
@@ -20,14 +20,14 @@ number-at-requires c κs = search needs
 number-at-requires-2 : tie.Need-number-at-requires-2
 number-at-requires-2 c κs = search needs
 
-cast-t8 : tie.Need-cast-t8
-cast-t8 c =
+cast-t7 : tie.Need-cast-t7
+cast-t7 c =
     let s = c .before .before .before in
     let p : i32 (c .before .number-at .result) ≡ c .before .number-at .result = search needs in
     rw p (within-fits w64 {B = 10_000} (subst (Within 10_000) (sym (c .before .number-at .ensures)) (eta-small (s .args .book .now) (s .pre))) (omega arith))
 
-cast-t9 : tie.Need-cast-t9
-cast-t9 c =
+cast-t8 : tie.Need-cast-t8
+cast-t8 c =
     let s = c .before .before .before in
     let p : i32 (c .number-at2 .result) ≡ c .number-at2 .result = search needs in
     rw p (within-fits w64 {B = 1_000_000} (subst (Within 1_000_000) (sym (c .number-at2 .ensures)) (unseen-small (s .args .book .now) (s .pre))) (omega arith))
@@ -37,10 +37,11 @@ returns c =
     let s = c .before .before .before in
     let p : i32 (c .before .number-at .result) ≡ c .before .number-at .result = search needs in
     let q : i32 (c .number-at2 .result) ≡ c .number-at2 .result = search needs in
-    task-is (s .args .book .now) (s .pre) (s .args .n) (s .args .phrases) (s .args .triples) _ _ _ (c .before .before .natural-at .ensures)
-    (toZ-ofZ (cast-t8 c) ∙ p ∙ c .before .number-at .ensures) (toZ-ofZ (cast-t9 c) ∙ q ∙ c .number-at2 .ensures)
+    task-is (s .args .book .now) (s .pre) (s .args .n) (s .args .counts) _ _ _ (c .before .before .natural-at .ensures)
+    (toZ-ofZ (cast-t7 c) ∙ p ∙ c .before .number-at .ensures) (toZ-ofZ (cast-t8 c) ∙ q ∙ c .number-at2 .ensures)
+
 
 pub task-of-spec : {M : Type 1} → statement M
 task-of-spec =
     tie.close
-    (tie.spec natural-at-requires number-at-requires number-at-requires-2 cast-t8 cast-t9 returns)
+    (tie.spec natural-at-requires number-at-requires number-at-requires-2 cast-t7 cast-t8 returns)

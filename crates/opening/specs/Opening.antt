@@ -1,0 +1,56 @@
+-- What is known of a loaded book once it is open, and what is ready once a direction is begun.
+use Prim.Native.Nat.{ℕ}
+use mathlib.Core.Path.{_≡_}
+use mathlib.Core.Bool.{true}
+use mathlib.Core.List.{List}
+use lib.IntN.{ℤ}
+use Rattle.laws.specs.Lists.{noneTwice}
+use Rattle.notes.specs.Questions.{_orelse_, number}
+use Rattle.notes.specs.Book.{Book, bookRefusal, bookOf}
+use Rattle.notes.specs.Direction.{directionRefusal}
+use Rattle.ngrams.specs.Grams.{keysIn, triplesIn, sameKey, Indexed}
+use Rattle.book.specs.Entries.{EntriesAt}
+use Rattle.derivation.specs.declared.Task.{Task}
+use Rattle.derivation.specs.Prepared.{Prepared}
+use Rattle.opening.specs.declared.Counts.{Counts}
+use Rattle.opening.specs.declared.Opened.{Opened}
+use Rattle.opening.specs.declared.Opened.the-variants.{Book as Opens, Refused as BookRefused}
+use Rattle.opening.specs.declared.Start.{Start}
+use Rattle.opening.specs.declared.Start.the-variants.{Ready, Refused}
+
+-- ════ questions 2 to 6
+
+-- they pass: the list has the book's triples as indexed records, and the places of its entries
+pub record Open (loaded index : List ℤ) (counts : Counts) : Type 0 where
+  pub passed : bookRefusal loaded ≡ 0
+  pub triples-are : triplesIn index (counts .triples) ≡ bookOf loaded .triples
+  pub different : noneTwice sameKey (keysIn index (counts .triples)) ≡ true
+  pub indexed : Indexed index (counts .triples)
+  pub entries-at : EntriesAt loaded index (counts .phrases)
+
+-- "Any call that takes a loaded book ..: 2 to 6."
+abbrev pub OpenedAs : List ℤ → List ℤ → Opened → Type 0
+OpenedAs loaded index (Opens counts) = Open loaded index counts
+OpenedAs loaded index (BookRefused refusal) = bookRefusal loaded ≡ number refusal
+
+-- ════ questions 9 and 10
+
+-- the numbers of the B line, and the counts given
+pub record TaskOf (book : Book) (n : ℕ) (counts : Counts) (t : Task) : Type 0 where
+  pub n-is : t .n ≡ n
+  pub limit-is : t .limit ≡ book .limit
+  pub eta-is : t .eta ≡ book .eta
+  pub unseen-is : t .unseen ≡ book .unseen
+  pub phrases-are : t .phrases ≡ counts .phrases
+  pub triples-are : t .triples ≡ counts .triples
+
+-- "A direction as numbers: 9, 10." Where they pass, the list and the numbers are those of the book and the direction
+abbrev pub BegunAs : List ℤ → List ℕ → List ℤ → Start → Type 0
+BegunAs loaded direction index (Ready t) = Prepared loaded direction index t
+BegunAs loaded direction index (Refused refusal) = directionRefusal direction ≡ number refusal
+
+-- ════ both
+
+abbrev pub StartOf : List ℤ → List ℕ → List ℤ → Start → Type 0
+StartOf loaded direction index (Ready t) = Prepared loaded direction index t
+StartOf loaded direction index (Refused refusal) = (bookRefusal loaded orelse directionRefusal direction) ≡ number refusal

@@ -1,0 +1,88 @@
+// A loaded book is opened once: questions 2 to 6, the index of its n-grams and the places of its entries. Then a direction is
+// begun: questions 9 and 10, and the numbers that a search or a score works on.
+use book::entries;
+use derivation::Task;
+use loading::load;
+use loading::load::Loaded;
+use notes::Checked;
+use notes::Refusal;
+ghost use mathlib.Core.Path.{_≡_};
+ghost use Prim.Native.Nat.{_≤_};
+ghost use lib.ListN.{length};
+ghost use Rattle.notes.specs.Book.{bookRefusal, bookOf};
+ghost use Rattle.book.specs.Entries.{indexSize};
+ghost use Rattle.opening.specs.Opening.{Open, OpenedAs, TaskOf, BegunAs, StartOf};
+
+// How many entries and how many triples a book has.
+pub struct Counts {
+    pub phrases: usize,
+    pub triples: usize,
+}
+
+// What a book answers to questions 2 to 6: its counts, or the refusal.
+pub enum Opened {
+    Book(Counts),
+    Refused(Refusal),
+}
+
+// What a direction answers to questions 9 and 10: the numbers that a search or a score works on, or the refusal.
+pub enum Start {
+    Ready(Task),
+    Refused(Refusal),
+}
+
+// Questions 2 to 6 of a loaded book. Where they pass, `index` holds what is known of it: its n-grams as indexed records, and
+// the places of its entries; after a refusal, what it holds is not said.
+pub fn open_book(book: &[i32], index: &mut [i32]) -> Opened
+    requires { ⌜ indexSize ≤ length (now index) ⌝ }
+    ensures { λ r. ⌜ OpenedAs (now (book .entry)) (now (index .exit)) r ⌝ }
+{
+    match load::load(book, index) {
+        Loaded::Book(s) => {
+            let triples = s.ts;
+            let phrases = entries::find_entries(book, index);
+            Opened::Book(Counts { phrases, triples })
+        }
+        Loaded::Refused(refusal) => Opened::Refused(refusal),
+    }
+}
+
+// The numbers of the B line: the reordering limit, the penalty, and the score of an unseen triple; beside them the counts.
+fn task_of(book: &[i32], n: usize, counts: Counts) -> Task
+    requires { ⌜ bookRefusal (now book) ≡ 0 ⌝ }
+    ensures { λ t. ⌜ TaskOf (bookOf (now (book .entry))) n counts t ⌝ }
+{
+    let limit = lines::natural_at(book, 1);
+    let eta = lines::number_at(book, 2);
+    let unseen = lines::number_at(book, 3);
+    Task {
+        n,
+        limit,
+        eta: eta as i64,
+        unseen: unseen as i64,
+        phrases: counts.phrases,
+        triples: counts.triples,
+    }
+}
+
+// Questions 9 and 10 of a direction, for a book that is open. (`index` is for the contract.)
+pub fn begin(book: &[i32], index: &[i32], counts: Counts, direction: &[u16]) -> Start
+    requires { ⌜ Open (now book) (now index) counts ⌝ }
+    ensures { λ r. ⌜ BegunAs (now (book .entry)) (now (direction .entry)) (now (index .entry)) r ⌝ }
+{
+    match direction::check_direction(direction) {
+        Checked::Passed => Start::Ready(task_of(book, direction.len(), counts)),
+        Checked::Refused(refusal) => Start::Refused(refusal),
+    }
+}
+
+// One book and one direction: 2 to 6, then 9 and 10.
+pub fn open_and_begin(book: &[i32], direction: &[u16], index: &mut [i32]) -> Start
+    requires { ⌜ indexSize ≤ length (now index) ⌝ }
+    ensures { λ r. ⌜ StartOf (now (book .entry)) (now (direction .entry)) (now (index .exit)) r ⌝ }
+{
+    match open_book(book, index) {
+        Opened::Book(counts) => begin(book, index, counts, direction),
+        Opened::Refused(refusal) => Start::Refused(refusal),
+    }
+}
