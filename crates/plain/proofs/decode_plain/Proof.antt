@@ -9,23 +9,11 @@ use Rattle.plain.proofs.decode_plain.Reads as reads
 use Rattle.plain.proofs.decode_plain.Lts as lts
 use Rattle.decoder.proofs.decode.decode_with.Reads as decode-with-reads
 use Rattle.decoder.proofs.decode.refused.Reads as refused-reads
-use Rattle.opening.proofs.prepare.Reads as prepare-reads
+use Rattle.opening.proofs.open_and_begin.Reads as open-and-begin-reads
 
 -- src/lib.rt:27:9
 slice-aggregate-open-and-begin : tie.Need-slice-aggregate-open-and-begin
 slice-aggregate-open-and-begin c = search needs
-
--- src/lib.rt:28:9
-slice-aggregate-open-and-begin-2 : tie.Need-slice-aggregate-open-and-begin-2
-slice-aggregate-open-and-begin-2 c = search needs
-
--- src/lib.rt:29:9
-slice-aggregate-open-and-begin-3 : tie.Need-slice-aggregate-open-and-begin-3
-slice-aggregate-open-and-begin-3 c = search needs
-
--- src/lib.rt:30:9
-slice-aggregate-open-and-begin-4 : tie.Need-slice-aggregate-open-and-begin-4
-slice-aggregate-open-and-begin-4 c = search needs
 
 -- src/lib.rt:24:11
 open-and-begin-requires : tie.Need-open-and-begin-requires
@@ -43,21 +31,9 @@ slice-aggregate-decode-with c = search needs
 slice-aggregate-decode-with-2 : tie.Need-slice-aggregate-decode-with-2
 slice-aggregate-decode-with-2 c = search needs
 
--- src/lib.rt:39:17
-slice-aggregate-decode-with-3 : tie.Need-slice-aggregate-decode-with-3
-slice-aggregate-decode-with-3 c = search needs
-
--- src/lib.rt:40:17
-slice-aggregate-decode-with-4 : tie.Need-slice-aggregate-decode-with-4
-slice-aggregate-decode-with-4 c = search needs
-
--- src/lib.rt:41:17
-slice-aggregate-decode-with-5 : tie.Need-slice-aggregate-decode-with-5
-slice-aggregate-decode-with-5 c = search needs
-
 -- src/lib.rt:34:13
 decode-with-requires : tie.Need-decode-with-requires
-decode-with-requires c κs = let s = rw (c .before .before .before .before .before .before .before .before .task .given .1) at (c .before .before .before .before .before .before .before .before .before .before .before .before .before .before .open-and-begin .ensures) in (s .prepared, ((s .entries-at, s .entries-room), omega arith))
+decode-with-requires c κs = let s = rw (c .before .before .before .before .before .task .given .1) at (c .before .before .before .before .before .before .before .before .open-and-begin .ensures) in (s, omega arith)
 
 -- src/lib.rt:48:24
 enum-known-refusal : tie.Need-enum-known-refusal
@@ -77,27 +53,22 @@ same-length-2 c = search needs
 
 -- src/lib.rt:9:1
 returns : tie.Need-returns
-returns c = rw (toZ-ofZ (c .before .before .before .before .before .before .before .before .before .before .before .before .before .before .before .before .before .before .before .before .before .before .before .before .before .before .fits .width)) at (c .before .before .before .before .decode-with .ensures)
+returns c = rw (toZ-ofZ (c .before .before .before .before .before .before .before .before .before .before .before .before .before .before .before .before .before .fits .width)) at (c .before .before .before .before .decode-with .ensures)
 
 -- src/lib.rt:9:1
 returns-2 : tie.Need-returns-2
-returns-2 c = refused-core _ _ _ _ _ _ _ (rw (c .before .before .refusal .given .1) at (c .before .before .before .before .before .before .before .before .open-and-begin .ensures)) (c .refused .ensures)
+returns-2 c = refused-core _ _ _ _ _ _ _ (rw (c .before .before .refusal .given .1) at (c .before .before .before .before .before .open-and-begin .ensures)) (c .refused .ensures)
+
 
 pub decode-plain-spec : {M : Type 1} → statement M
 decode-plain-spec =
     tie.close
     (tie.spec
     slice-aggregate-open-and-begin
-    slice-aggregate-open-and-begin-2
-    slice-aggregate-open-and-begin-3
-    slice-aggregate-open-and-begin-4
     open-and-begin-requires
     enum-known-task
     slice-aggregate-decode-with
     slice-aggregate-decode-with-2
-    slice-aggregate-decode-with-3
-    slice-aggregate-decode-with-4
-    slice-aggregate-decode-with-5
     decode-with-requires
     enum-known-refusal
     refused-requires

@@ -12,15 +12,6 @@ use Rattle.scoring.proofs.score_plain.Tie as tie
 slice-aggregate-open-and-begin : tie.Need-slice-aggregate-open-and-begin
 slice-aggregate-open-and-begin c = search needs
 
-slice-aggregate-open-and-begin-2 : tie.Need-slice-aggregate-open-and-begin-2
-slice-aggregate-open-and-begin-2 c = search needs
-
-slice-aggregate-open-and-begin-3 : tie.Need-slice-aggregate-open-and-begin-3
-slice-aggregate-open-and-begin-3 c = search needs
-
-slice-aggregate-open-and-begin-4 : tie.Need-slice-aggregate-open-and-begin-4
-slice-aggregate-open-and-begin-4 c = search needs
-
 open-and-begin-requires : tie.Need-open-and-begin-requires
 open-and-begin-requires c κs = search needs
 
@@ -33,51 +24,37 @@ slice-aggregate-score-steps c = search needs
 slice-aggregate-score-steps-2 : tie.Need-slice-aggregate-score-steps-2
 slice-aggregate-score-steps-2 c = search needs
 
-slice-aggregate-score-steps-3 : tie.Need-slice-aggregate-score-steps-3
-slice-aggregate-score-steps-3 c = search needs
-
-slice-aggregate-score-steps-4 : tie.Need-slice-aggregate-score-steps-4
-slice-aggregate-score-steps-4 c = search needs
-
-slice-aggregate-score-steps-5 : tie.Need-slice-aggregate-score-steps-5
-slice-aggregate-score-steps-5 c = search needs
-
 score-steps-requires : tie.Need-score-steps-requires
 score-steps-requires c κs =
-    let s = rw (c .before .before .before .before .before .before .t .given .1) at (c .before .before .before .before .before .before .before .before .before .before .before .before .open-and-begin .ensures) in
-    let a = c .before .before .before .before .before .before .before .before .before .before .before .before .before .before .before .before .before .before .before .args in
-    let long : length (a .plain .numbers) ≡ 99 = sym (length-map (a .plain .numbers) _) ∙ c .before .before .before .before .before .before .before .before .before .before .before .before .before .before .before .before .before .before .before .good .1 .1 .0 .1 .1 .1 .0 .1 .0 .1 in
-    (s .prepared, (s .entries-at, (s .entries-room, omega (arith, long, c .before .before .before .before .before .before .before .before .before .before .before .before .before .before .before .before .before .before .before .pre))))
+    let s = rw (c .before .before .before .t .given .1) at (c .before .before .before .before .before .before .open-and-begin .ensures) in
+    let a = c .before .before .before .before .before .before .before .before .before .before .args in
+    let long : length (a .plain .numbers) ≡ 99 = sym (length-map (a .plain .numbers) _) ∙ c .before .before .before .before .before .before .before .before .before .before .good .1 .1 .0 .1 .1 .1 .0 .1 .0 .1 in
+    (s, omega (arith, long, c .before .before .before .before .before .before .before .before .before .before .pre))
 
 enum-known-refusal : tie.Need-enum-known-refusal
 enum-known-refusal c = search needs
 
 returns : tie.Need-returns
 returns c =
-    let a = c .before .before .before .before .before .before .before .before .before .before .before .before .before .before .before .before .before .before .before .before .args in
-    let s = rw (c .before .before .before .before .before .before .before .t .given .1) at (c .before .before .before .before .before .before .before .before .before .before .before .before .before .open-and-begin .ensures) in
+    let a = c .before .before .before .before .before .before .before .before .before .before .before .args in
+    let s = rw (c .before .before .before .before .t .given .1) at (c .before .before .before .before .before .before .before .open-and-begin .ensures) in
     scored-last (a .book .now) (a .direction .now) (a .plain) (scoredReply (c .score-steps .result)) (s .passed) (s .directed) (c .score-steps .ensures)
 
 returns-2 : tie.Need-returns-2
 returns-2 c =
-    let a = c .before .before .before .before .before .before .before .before .before .before .before .before .before .before .args in
-    refused-before (a .book .now) (a .direction .now) (stepsOf (a .plain)) (c .before .refusal .given .0 .0) (rw (c .before .refusal .given .1) at (c .before .before .before .before .before .before .before .open-and-begin .ensures))
+    let a = c .before .before .before .before .before .before .before .before .args in
+    refused-before (a .book .now) (a .direction .now) (stepsOf (a .plain)) (c .before .refusal .given .0 .0) (rw (c .before .refusal .given .1) at (c .before .before .before .before .open-and-begin .ensures))
+
 
 pub score-plain-spec : {M : Type 1} → statement M
 score-plain-spec =
     tie.close
     (tie.spec
     slice-aggregate-open-and-begin
-    slice-aggregate-open-and-begin-2
-    slice-aggregate-open-and-begin-3
-    slice-aggregate-open-and-begin-4
     open-and-begin-requires
     enum-known-t
     slice-aggregate-score-steps
     slice-aggregate-score-steps-2
-    slice-aggregate-score-steps-3
-    slice-aggregate-score-steps-4
-    slice-aggregate-score-steps-5
     score-steps-requires
     enum-known-refusal
     returns
