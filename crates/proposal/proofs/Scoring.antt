@@ -2,7 +2,7 @@
 use Prim.Native.Nat.{ℕ, zero, suc, _+_, _-_, _*_, _/_, _%_, _^_, _≤_, _<_}
 use native.Mathlib.Nat.{pow-suc}
 use native.Mathlib.Omega.{arith}
-use mathlib.Core.Path.{_≡_, refl, sym, _∙_, ap}
+use mathlib.Core.Path.{_≡_, sym, _∙_, ap}
 use mathlib.Core.Bool.{Bool, true, _&&_}
 use mathlib.Core.List.{List, [], _∷_, map}
 use borrow.Author.Tests.{eqb-true, eq-eqb, ne-eqb}
@@ -24,8 +24,8 @@ use Rattle.notes.specs.Reply.{Reply, refused, done, reply, stepsRefusal}
 use Rattle.notes.specs.declared.Step.{Step}
 use Rattle.notes.specs.declared.State.{State}
 use Rattle.notes.specs.declared.Refusal.{Refusal}
-use Rattle.notes.specs.declared.Refusal.the-variants.{BookText, LineFields, BLine, NumberRange, LineCount, RepeatedTriple, ListTooShort, DirectionText, WordCount, WordRange, Width, StepsOrWordsTooShort, StoreTooSmall, NoDerivation, LastSetEmpty, DoesNotFit, CoveredTwice, JumpTooLong, Uncovered}
 use Rattle.notes.proofs.Chains.{reply-done, reply-refused}
+use Rattle.notes.proofs.Numbered.{refused-reply}
 use Rattle.notes.proofs.Scores.{total-score}
 use Rattle.proposal.specs.Proposal.{stepIn, stepsIn, Ready, Follows, stepRefusal}
 
@@ -62,33 +62,6 @@ rest-next steps count i h =
 
 pub rest-end : (steps : List ℕ) (count i : ℕ) → count ≤ i → rest steps count i ≡ []
 rest-end steps count i h = let z : count - i ≡ 0 = omega arith in rw z
-
--- ════ refusals
-
-number-some : (r : Refusal) → 1 ≤ number r
-number-some BookText = omega arith
-number-some LineFields = omega arith
-number-some BLine = omega arith
-number-some NumberRange = omega arith
-number-some LineCount = omega arith
-number-some RepeatedTriple = omega arith
-number-some ListTooShort = omega arith
-number-some DirectionText = omega arith
-number-some WordCount = omega arith
-number-some WordRange = omega arith
-number-some Width = omega arith
-number-some StepsOrWordsTooShort = omega arith
-number-some StoreTooSmall = omega arith
-number-some NoDerivation = omega arith
-number-some LastSetEmpty = omega arith
-number-some DoesNotFit = omega arith
-number-some CoveredTwice = omega arith
-number-some JumpTooLong = omega arith
-number-some Uncovered = omega arith
-
-refused-by : (k : ℕ) (a : ℤ) → 1 ≤ k → refused k ≡ reply k a
-refused-by zero a h = absurd (omega arith)
-refused-by (suc k) a h = refl
 
 module _ (book : Book) (direction : List ℕ) where
   abbrev n : ℕ
@@ -146,7 +119,7 @@ module _ (book : Book) (direction : List ℕ) where
     unfolding stepsRefusal
     scoring-stops {step} {left} c r e =
         let k : number r ≡ stepsRefusal book direction (start n) steps = e (stepsRefusal book direction (nextKey book (keyOf n s) step) left) ∙ c .refusal-same in
-        refused-by (number r) (scoreOf book steps) (number-some r) ∙ ap (λ (m : ℕ). reply m (scoreOf book steps)) k
+        refused-reply r _ (scoreOf book steps) (sym k)
 
     module _ (c : Scoring steps s []) where
       end : stepsRefusal book direction (start n) steps ≡ (19 unless eqb (s .covered) (2 ^ n - 1))
