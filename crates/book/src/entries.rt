@@ -8,9 +8,10 @@ ghost use Rattle.laws.specs.Bits.{one};
 ghost use Rattle.notes.specs.Book.{isP, bookRefusal};
 ghost use Rattle.book.specs.Entries.{entriesFrom, indexSize, entryPlace, withPlace, Placed};
 
-// Where the places of the entries begin, and how long the list is with them.
-const ENTRIES: usize = 49152;
-pub const INDEX_SIZE: usize = 53248;
+// How many entries there may be, where their places begin, and how long the list is with them.
+pub const ENTRIES_MOST: usize = 4096;
+const ENTRIES: usize = ngrams::RECORDS_END;
+pub const INDEX_SIZE: usize = ENTRIES + ENTRIES_MOST;
 
 // Where entry k, counted from 0, stands in the loaded book.
 pub fn entry_place(index: &[i32], k: usize) -> usize

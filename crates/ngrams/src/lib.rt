@@ -11,15 +11,15 @@ ghost use Rattle.notes.specs.Derivation.{listedScore};
 ghost use Rattle.ngrams.specs.Parts.{bucketCount, recordSize, recordsFrom, recordsEnd, naturalIn};
 ghost use Rattle.ngrams.specs.Grams.{recordAt, keyAt, keysIn, triplesIn, putRecord, sameKey, holds, bucketOf, Room, Indexed, Cleared, Inserted, earlierAlike, Compared, latestScore};
 
-// How many buckets there are, and where the links begin.
+// How many buckets there are, how many records there may be, and how many numbers a record has.
 const BUCKETS: usize = 8192;
-const LINKS: usize = 8192;
-
-// Where the records begin, how many there may be, how many numbers each has, and where they end.
-const RECORDS: usize = 16384;
 pub const RECORDS_MOST: usize = 8192;
 const RECORD_SIZE: usize = 4;
-pub const RECORDS_END: usize = 49152;
+
+// Where the links begin, where the records begin, and where they end.
+const LINKS: usize = BUCKETS;
+const RECORDS: usize = LINKS + RECORDS_MOST;
+pub const RECORDS_END: usize = RECORDS + RECORD_SIZE * RECORDS_MOST;
 
 // The words of an n-gram: y after v and w.
 pub struct Key {

@@ -5,6 +5,7 @@ use mathlib.Core.List.{List, _++_, map}
 use lib.ListN.{length, getD, take}
 use Rattle.laws.specs.Lists.{keep, concat, oneTo}
 use Rattle.notes.specs.Book.{Book}
+use Rattle.book.specs.Entries.{entriesMost}
 use Rattle.notes.specs.Direction.{wordCount}
 use Rattle.notes.specs.Derivation.{noStep, fits}
 use Rattle.notes.specs.Search.{stepAt, fittingSteps}
@@ -13,6 +14,10 @@ use Rattle.notes.specs.declared.Step.{Step}
 -- the entry numbers stand behind the starts of positions 1 to 32 and of what would be the 33rd, two numbers each
 abbrev pub optionsFrom : ℕ
 optionsFrom = 66
+
+-- the list has room for every entry at every position
+abbrev pub optionsSize : ℕ
+optionsSize = optionsFrom + 32 * entriesMost
 
 -- where the options of position i + 1 begin, counted in options: the rest below 65,536, and how many times 65,536
 unfoldable pub startAt : List ℕ → ℕ → ℕ

@@ -1,5 +1,6 @@
 // The steps that fit: every entry at every first position, and the test of one proposed step.
 // They are one list of two parts: where the options of each first position begin, and then their entry numbers.
+use book::entries;
 use derivation::Phrase;
 use derivation::Task;
 use derivation::model;
@@ -14,10 +15,12 @@ ghost use Rattle.notes.specs.Book.{Entry, bookOf};
 ghost use Rattle.notes.specs.Derivation.{wordsFromTo};
 ghost use Rattle.book.specs.Entries.{EntriesAt};
 ghost use Rattle.derivation.specs.Model.{PhraseOf, Phrased};
-ghost use Rattle.options.specs.Options.{optionsFrom, startAt, optionIn, fittingAt, StartPut, Listed, OptionsOf};
+ghost use Rattle.options.specs.Options.{optionsFrom, optionsSize, startAt, optionIn, fittingAt, StartPut, Listed, OptionsOf};
 
-// Where the entry numbers of the options stand in the list: behind 33 starts of two numbers each.
+// Where the entry numbers of the options stand in the list: behind 33 starts of two numbers each; and how long the list is, with room for
+// every entry at every position.
 const OPTIONS_FROM: usize = 66;
+pub const OPTIONS_SIZE: usize = OPTIONS_FROM + 32 * entries::ENTRIES_MOST;
 
 // Where the options of the position i + 1 begin, counted in options; with i the number of words, how many options there are.
 pub fn start_at(options: &[u16], i: usize) -> usize
@@ -118,7 +121,7 @@ pub fn list_options(
 )
     requires { ⌜ EntriesAt (now book) (now index) (t .phrases) ⌝ }
     requires { ⌜ length (now direction) ≤ 32 ⌝ }
-    requires { ⌜ optionsFrom + 32 * 4096 ≤ length (now options) ⌝ }
+    requires { ⌜ optionsSize ≤ length (now options) ⌝ }
     ensures { λ r. ⌜ OptionsOf (bookOf (now (book .entry))) (now (direction .entry)) (now (options .exit)) ⌝ }
 {
     let mut count = 0;
