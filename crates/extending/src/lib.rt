@@ -111,51 +111,8 @@ fn extend_option(
     grow(store, count, y)
 }
 
-// It is extended by every option of a position that is in reach.
-fn extend_at(
-    store: &mut [i64],
-    count: usize,
-    book: &[i32],
-    direction: &[u16],
-    index: &[i32],
-    options: &[u16],
-    job: Job,
-    spot: Spot,
-) -> Grown
-    requires { ⌜ Searchable (now book) (now direction) (now index) (now options) (job .task) ⌝ }
-    requires { ⌜ SpotOf (now book) (now direction) job spot × (jumpFrom (spot .source .place .state .r) (spot .first) ≤ job .task .limit) ⌝ }
-    requires { ⌜ Growing (bookOf (now book)) (now direction) (job .width) (spot .source .place .size) (spot .source .at) (startAt (now options) (spot .first - 1)) (now store) count ⌝ }
-    ensures { λ r. ⌜ Grew (bookOf (now (book .entry))) (now (direction .entry)) (job .width) (spot .source .place .size) (spot .source .at) (startAt (now (options .entry)) (spot .first)) (now (store .exit)) r ⌝ }
-{
-    let to = options::start_at(options, spot.first);
-    let mut c = count;
-    let mut o = options::start_at(options, spot.first - 1);
-    while o < to {
-        let entry = options::option_at(options, o) as usize;
-        let turn = Turn {
-            spot,
-            option: o,
-            entry,
-        };
-        let Grown::On(more) = extend_option(
-            store,
-            c,
-            book,
-            direction,
-            index,
-            job,
-            turn,
-        ) else {
-            return Grown::Overflow;
-        };
-        c = more;
-        o += 1;
-    }
-    Grown::On(c)
-}
-
 // It is extended by the options of a position: by none where that is covered, or out of reach.
-fn extend_from(
+fn extend_at(
     store: &mut [i64],
     count: usize,
     book: &[i32],
@@ -176,16 +133,23 @@ fn extend_from(
     if job.task.limit < derivation::step::jump(spot.source.place.state.r as usize, spot.first) {
         return Grown::On(count);
     }
-    extend_at(
-        store,
-        count,
-        book,
-        direction,
-        index,
-        options,
-        job,
-        spot,
-    )
+    let to = options::start_at(options, spot.first);
+    let mut c = count;
+    let mut o = options::start_at(options, spot.first - 1);
+    while o < to {
+        let entry = options::option_at(options, o) as usize;
+        let turn = Turn {
+            spot,
+            option: o,
+            entry,
+        };
+        let Grown::On(more) = extend_option(store, c, book, direction, index, job, turn) else {
+            return Grown::Overflow;
+        };
+        c = more;
+        o += 1;
+    }
+    Grown::On(c)
 }
 
 // It is extended by every option: those of the first position, then those of the second, and so on.
@@ -214,7 +178,7 @@ pub fn extend_all(
             first: i + 1,
             run: run[i] as usize,
         };
-        let Grown::On(more) = extend_from(
+        let Grown::On(more) = extend_at(
             store,
             c,
             book,

@@ -14,7 +14,7 @@ use Rattle.extending.proofs.extend_all.Tie as tie
 use Rattle.extending.proofs.extend_all.Reads as reads
 use Rattle.extending.proofs.extend_all.Lts as lts
 use Rattle.coverage.proofs.free_runs.Reads as free-runs-reads
-use Rattle.extending.proofs.extend_from.Reads as extend-from-reads
+use Rattle.extending.proofs.extend_at.Reads as extend-at-reads
 
 abbrev Inv-loop : tie.InvT-loop
 Inv-loop store₀ count book direction index options job source run c₀ i₀ store c i =
@@ -45,8 +45,8 @@ cast-t20 : tie.Need-cast-t20 Inv-loop μ-loop
 cast-t20 c = search needs
 
 -- src/lib.rt:239:31
-extend-from-requires : tie.Need-extend-from-requires Inv-loop μ-loop
-extend-from-requires c κs =
+extend-at-requires : tie.Need-extend-at-requires Inv-loop μ-loop
+extend-at-requires c κs =
     let s = c .before .before .before .before .before .before .before .before in
     let l = c .before .before .before .loop in
     let z : l .i ≡ l .i + 1 - 1 = omega arith in
@@ -66,7 +66,7 @@ same-length c = search needs
 
 -- src/lib.rt:252:13
 returns : tie.Need-returns Inv-loop μ-loop
-returns c = rw (c .enum-told .given .1) at (c .before .before .before .extend-from .ensures)
+returns c = rw (c .enum-told .given .1) at (c .before .before .before .extend-at .ensures)
 
 -- src/lib.rt:255:9
 add-i : tie.Need-add-i Inv-loop μ-loop
@@ -78,7 +78,7 @@ loop-less c = search needs
 
 -- src/lib.rt:233:5
 loop-again : tie.Need-loop-again Inv-loop μ-loop
-loop-again c = let l = c .before .before .before .before .before .before .before .before .loop in let e = c .before .before .before .before .extend-from in (omega arith, (e .kept .0 ∙ l .inv .1 .0, rw (c .before .more .given .1) at (e .ensures)))
+loop-again c = let l = c .before .before .before .before .before .before .before .before .loop in let e = c .before .before .before .before .extend-at in (omega arith, (e .kept .0 ∙ l .inv .1 .0, rw (c .before .more .given .1) at (e .ensures)))
 
 -- src/lib.rt:211:1
 same-length-2 : tie.Need-same-length-2 Inv-loop μ-loop
@@ -100,7 +100,7 @@ extend-all-spec =
     add-t16
     array-read-t19
     cast-t20
-    extend-from-requires
+    extend-at-requires
     enum-known-more
     enum-told
     same-length
