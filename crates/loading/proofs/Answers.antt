@@ -1,4 +1,4 @@
--- Questions 3 to 6 by the survey: what an answer of `fourOf` and of the comparison of the triples says of all lines.
+-- Questions 3 to 6 by the survey: what an answer of `surveyRefusal` and of the comparison of the triples says of all lines.
 use Prim.Native.Nat.{ℕ, _+_, _≤_}
 use native.Mathlib.Omega.{arith}
 use mathlib.Core.Path.{_≡_, refl, sym, _∙_, ap}
@@ -12,7 +12,7 @@ use Rattle.laws.specs.Lists.{all, keep, count, noneTwice}
 use Rattle.laws.proofs.Lists.{keep-length}
 use Rattle.laws.proofs.Tests.{both}
 use Rattle.notes.specs.Questions.{_unless_, _orelse_, number}
-use Rattle.notes.specs.Book.{isP, isT, isWhole, isOneBFirst, isInRange, isNoTripleTwice, linesRefusal, entryOf, tripleOf, bookOfLines, loadedLines}
+use Rattle.notes.specs.Book.{phrasesMost, triplesMost, isP, isT, isWhole, isOneBFirst, isInRange, isNoTripleTwice, linesRefusal, entryOf, tripleOf, bookOfLines, loadedLines}
 use Rattle.notes.specs.declared.Refusal.{Refusal}
 use Rattle.notes.proofs.Chains.{rest-passes, test-passes}
 use Rattle.ngrams.specs.Parts.{recordsMost, recordsFrom, recordsEnd, KeptFrom}
@@ -22,7 +22,7 @@ use Rattle.ngrams.proofs.Lines.{Copied, triples-are, answers-6}
 use Rattle.book.specs.declared.survey.Survey.{Survey}
 use Rattle.book.specs.declared.loaded.Surveyed.{Surveyed}
 use Rattle.book.specs.declared.loaded.Surveyed.the-variants.{Whole, Broken}
-use Rattle.book.specs.Survey.{fourOf}
+use Rattle.book.specs.Survey.{surveyRefusal}
 use Rattle.book.specs.Loaded.{SurveyOf}
 use Rattle.book.proofs.Counts.{survey-ps, survey-ts, survey-refusal}
 use Rattle.book.proofs.Triples.{grams-long, grams-hold}
@@ -32,9 +32,9 @@ use Rattle.notes.proofs.Numbered.{number-from, refused-first}
 -- ════ questions 3 to 5
 
 -- it is one of three refusals, or none
-pub four-none : (s : Survey) (k : ℕ) → k ≡ fourOf s → (k ≡ 3 → ⊥) → (k ≡ 4 → ⊥) → (k ≡ 5 → ⊥) → 0 ≡ fourOf s
-unfolding fourOf
-four-none s k e three four five = by (s .headed && eqb (s .bs) 1) (s .ranged) (leb (s .ps) 4_096 && leb (s .ts) 8_192) e
+pub judged-none : (s : Survey) (k : ℕ) → k ≡ surveyRefusal s → (k ≡ 3 → ⊥) → (k ≡ 4 → ⊥) → (k ≡ 5 → ⊥) → 0 ≡ surveyRefusal s
+unfolding surveyRefusal
+judged-none s k e three four five = by (s .headed && eqb (s .bs) 1) (s .ranged) (leb (s .ps) phrasesMost && leb (s .ts) triplesMost) e
   where
     by : (a b c : Bool) → k ≡ (3 unless a orelse 4 unless b orelse 5 unless c) → 0 ≡ (3 unless a orelse 4 unless b orelse 5 unless c)
     by true true true q = refl
@@ -43,13 +43,13 @@ four-none s k e three four five = by (s .headed && eqb (s .bs) 1) (s .ranged) (l
     by false b c q = absurd (three q)
 
 -- no more T lines than there is room for
-pub four-few : (s : Survey) → fourOf s ≡ 0 → s .ts ≤ recordsMost
-unfolding fourOf
-four-few s e =
+pub judged-few : (s : Survey) → surveyRefusal s ≡ 0 → s .ts ≤ recordsMost
+unfolding surveyRefusal
+judged-few s e =
     let after3 = rest-passes (3 unless (s .headed && eqb (s .bs) 1)) _ e in
     let after4 = rest-passes (4 unless s .ranged) _ after3 in
-    let short = test-passes 4 (leb (s .ps) 4_096 && leb (s .ts) 8_192) after4 in
-    leb-true (s .ts) 8_192 (both (leb (s .ps) 4_096) (leb (s .ts) 8_192) short .1)
+    let short = test-passes 4 (leb (s .ps) phrasesMost && leb (s .ts) triplesMost) after4 in
+    leb-true (s .ts) triplesMost (both (leb (s .ps) phrasesMost) (leb (s .ts) triplesMost) short .1)
 
 -- a refusal by a later question, or none, has passed question 4
 later : (a b c : Bool) (m j : ℕ) → (2 unless a orelse 3 unless b orelse 4 unless c orelse m) ≡ j → (j ≡ 2 → ⊥) → (j ≡ 3 → ⊥) → (j ≡ 4 → ⊥) → c ≡ true
@@ -60,9 +60,9 @@ later false b c m j e two three four = absurd (two (sym e))
 
 -- ════ question 6
 
-module _ {lines : List (List ℤ)} {index₀ index : List ℤ} {s : Survey} (w : WholeAs lines index₀ index s) (room : recordsEnd ≤ length index) (four : fourOf s ≡ 0) where
+module _ {lines : List (List ℤ)} {index₀ index : List ℤ} {s : Survey} (w : WholeAs lines index₀ index s) (room : recordsEnd ≤ length index) (four : surveyRefusal s ≡ 0) where
   refusal-6 : linesRefusal lines ≡ 6 unless isNoTripleTwice lines
-  refusal-6 = survey-refusal lines (w .whole) ∙ ap (λ (k : ℕ). k orelse 6 unless isNoTripleTwice lines) (ap fourOf (sym (w .surveyed)) ∙ four)
+  refusal-6 = survey-refusal lines (w .whole) ∙ ap (λ (k : ℕ). k orelse 6 unless isNoTripleTwice lines) (ap surveyRefusal (sym (w .surveyed)) ∙ four)
 
   counted : s .ts ≡ count isT lines
   counted = ap (λ (x : Survey). x .ts) (w .surveyed) ∙ survey-ts lines
@@ -82,7 +82,7 @@ module _ {lines : List (List ℤ)} {index₀ index : List ℤ} {s : Survey} (w :
         let n : length (keep isT lines) ≡ count isT lines = keep-length isT lines in
         let c : f + 1 ≡ 1 + f = omega arith in
         let z = counted in
-        let few = four-few s four in
+        let few = judged-few s four in
         rw (w .gathered, c) (grams-hold index₀ lines (omega arith) (omega (arith, ap length (w .gathered), grams-long index₀ 0 lines)) k f (omega arith) l);
   }
 
@@ -108,11 +108,11 @@ module _ {lines : List (List ℤ)} {index₀ index : List ℤ} {s : Survey} (w :
   }
 
 -- a refusal by questions 3 to 5 is the lines' refusal
-pub four-so : {lines : List (List ℤ)} {index₀ index : List ℤ} {s : Survey} → WholeAs lines index₀ index s → (refusal : Refusal) → number refusal ≡ fourOf s
+pub judged-so : {lines : List (List ℤ)} {index₀ index : List ℤ} {s : Survey} → WholeAs lines index₀ index s → (refusal : Refusal) → number refusal ≡ surveyRefusal s
     → linesRefusal lines ≡ number refusal
-four-so {lines} w refusal e =
+judged-so {lines} w refusal e =
     survey-refusal lines (w .whole)
-    ∙ ap (λ (j : ℕ). j orelse 6 unless isNoTripleTwice lines) (ap fourOf (sym (w .surveyed)) ∙ sym e)
+    ∙ ap (λ (j : ℕ). j orelse 6 unless isNoTripleTwice lines) (ap surveyRefusal (sym (w .surveyed)) ∙ sym e)
     ∙ refused-first (number refusal) _ (number-from refusal)
 
 -- ════ a loaded list

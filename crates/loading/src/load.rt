@@ -13,7 +13,7 @@ ghost use lib.ListN.{length};
 ghost use Rattle.notes.specs.Book.{linesRefusal, bookOfLines, bookRefusal, bookOf};
 ghost use Prim.Native.Nat.{_≤_};
 ghost use Rattle.ngrams.specs.Parts.{recordsEnd};
-ghost use Rattle.book.specs.Survey.{fourOf};
+ghost use Rattle.book.specs.Survey.{surveyRefusal};
 ghost use Rattle.loading.specs.Loaded.{refusalOf, WholeAs, SurveyIs, Answered};
 
 // What the lines of a book answer to questions 2 to 6: what is known of them all, or the refusal.
@@ -24,7 +24,7 @@ pub enum Loaded {
 
 // Questions 3 to 5, of all lines.
 fn judge(s: Survey) -> Checked
-    ensures { λ r. ⌜ refusalOf r ≡ fourOf s ⌝ }
+    ensures { λ r. ⌜ refusalOf r ≡ surveyRefusal s ⌝ }
 {
     let k = survey::refusal_of(s);
     if k == 3 {
@@ -42,7 +42,7 @@ fn judge(s: Survey) -> Checked
 // Question 6, of lines that passed 2 to 5. Where it passes, the records are indexed.
 fn compare(s: Survey, index: &mut [i32]) -> Loaded
     requires { ⌜ recordsEnd ≤ length (now index) ⌝ }
-    requires { ⌜ fourOf s ≡ 0 ⌝ }
+    requires { ⌜ surveyRefusal s ≡ 0 ⌝ }
     ensures { λ r. ⌜ ((lines : List (List ℤ)) (index₀ : List ℤ) → WholeAs lines index₀ (now (index .entry)) s → Answered (linesRefusal lines) (bookOfLines lines) (now (index .exit)) r) ⌝ }
 {
     if ngrams::all_different(index, s.ts) {

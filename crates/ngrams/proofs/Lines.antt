@@ -16,7 +16,7 @@ use Rattle.laws.proofs.Tests.{both, same-test}
 use Rattle.laws.proofs.Linear.{signed, num}
 use Rattle.laws.proofs.Lists.{all-mem, keep-mem, keep-length}
 use Rattle.laws.proofs.Order.{yes-≡}
-use Rattle.notes.specs.Book.{numberAt, isT, isWhole, isInRange, isWord, isWordOrStart, isScore, rangesT, sizeOf, tripleKey, isNoTripleTwice, tripleOf, Book}
+use Rattle.notes.specs.Book.{numberAt, isT, isWhole, isInRange, isHistoryWord, isLastWord, isScore, rangesT, sizeOf, tripleKey, isNoTripleTwice, tripleOf, Book}
 use Rattle.notes.specs.Derivation.{listedScore, tripleScore}
 use Rattle.ngrams.specs.declared.Key.{Key}
 use Rattle.ngrams.specs.Parts.{naturalIn}
@@ -79,9 +79,9 @@ unfolding isWhole sizeOf isInRange
 t-line line t w e =
     let k : numberAt line 0 ≡ pos 3 = yes-≡ (numberAt line 0) (pos 3) t in
     let r : rangesT line ≡ true = rw k at e in
-    let h = both (isWordOrStart (numberAt line 1) && isWordOrStart (numberAt line 2) && isWord (numberAt line 3)) (isScore (numberAt line 4)) r in
-    let g = both (isWordOrStart (numberAt line 1) && isWordOrStart (numberAt line 2)) (isWord (numberAt line 3)) (h .0) in
-    let f = both (isWordOrStart (numberAt line 1)) (isWordOrStart (numberAt line 2)) (g .0) in
+    let h = both (isHistoryWord (numberAt line 1) && isHistoryWord (numberAt line 2) && isLastWord (numberAt line 3)) (isScore (numberAt line 4)) r in
+    let g = both (isHistoryWord (numberAt line 1) && isHistoryWord (numberAt line 2)) (isLastWord (numberAt line 3)) (h .0) in
+    let f = both (isHistoryWord (numberAt line 1)) (isHistoryWord (numberAt line 2)) (g .0) in
     record {
       long = eqb-true _ _ (rw k at (both (not (isEmpty line)) _ w .1));
       v-from = both (leZ (pos 0) (numberAt line 1)) _ (f .0) .0;

@@ -13,30 +13,17 @@ use lib.Seq.{take-append-seam, drop-append-seam}
 use Rattle.laws.specs.Lists.{all, concat}
 use Rattle.laws.proofs.Tests.{both}
 use Rattle.notes.specs.Questions.{_unless_}
-use Rattle.notes.specs.Book.{isB, isP, isT, isPhraseLength, naturalAt, sizeOf, isWhole, cutLines, loadedLines, linesRefusal, bookRefusal, isBookText, textLines, loadedOf, readRefusal}
+use Rattle.notes.specs.Book.{sizeOf, isWhole, cutLines, loadedLines, linesRefusal, bookRefusal, isBookText, textLines, loadedOf, readRefusal}
 use Rattle.notes.proofs.Chains.{first-passes, rest-passes}
 use Rattle.notes.proofs.Ranges.{lines-passed}
+use Rattle.notes.proofs.Sizes.{four-numbers}
 
--- a line of one number, or of two, has the size of no kind
-not-one : (b p t : Bool) → eqb 1 (cond b 4 (cond p 0 (cond t 5 0))) ≡ true → ⊥
-not-one true p t h = false≢true h
-not-one false true t h = false≢true h
-not-one false false true h = false≢true h
-not-one false false false h = false≢true h
-
-not-two : (b p t a : Bool) (k : ℕ) → eqb 2 (cond b 4 (cond p (cond (a && false) k 0) (cond t 5 0))) ≡ true → ⊥
-not-two true p t a k h = false≢true h
-not-two false true t true k h = false≢true h
-not-two false true t false k h = false≢true h
-not-two false false true a k h = false≢true h
-not-two false false false a k h = false≢true h
-
--- a whole line's size is seen from its own numbers
+-- a whole line's size is seen from its own numbers, of which it has four at least
 pub size-append : (line rest : List ℤ) → isWhole line ≡ true → sizeOf (line ++ rest) ≡ sizeOf line
-unfolding isWhole sizeOf
-size-append [] rest t = absurd (false≢true t)
-size-append (z ∷ []) rest t = absurd (not-one (isB (z ∷ [])) (isP (z ∷ [])) (isT (z ∷ [])) t)
-size-append (z ∷ a ∷ []) rest t = absurd (not-two (isB (z ∷ [])) (isP (z ∷ [])) (isT (z ∷ [])) (isPhraseLength a) (naturalAt (z ∷ a ∷ []) 1 + 0 + 4) t)
+unfolding sizeOf
+size-append [] rest t = absurd (omega (arith, four-numbers [] t))
+size-append (z ∷ []) rest t = absurd (omega (arith, four-numbers (z ∷ []) t))
+size-append (z ∷ a ∷ []) rest t = absurd (omega (arith, four-numbers (z ∷ a ∷ []) t))
 size-append (z ∷ a ∷ b ∷ line) rest t = refl
 
 pub whole-size : (z : ℤ) (line : List ℤ) → isWhole (z ∷ line) ≡ true → sizeOf (z ∷ line) ≡ suc (length line)

@@ -16,7 +16,7 @@ use Rattle.laws.proofs.Linear.{signed, num}
 use Rattle.laws.proofs.Order.{yes-≡}
 use Rattle.laws.proofs.Lists.{all-mem, keep-mem, getD-mem}
 use Rattle.notes.specs.Questions.{_unless_, withinℤ}
-use Rattle.notes.specs.Book.{numberAt, naturalAt, isB, isP, isT, isPhraseLength, sizeOf, isWhole, isOneBFirst, isScore, isWord, isWordOrStart, rangesB, rangesP, rangesT, isInRange, isNotTooLong, isNoTripleTwice, linesRefusal, bookRefusal, loadedLines, wordsAt, Entry, Triple, Book, entryOf, tripleOf, bookOfLines, bookOf}
+use Rattle.notes.specs.Book.{numberAt, naturalAt, isB, isP, isT, isPhraseLength, sizeOf, isWhole, isOneBFirst, isScore, isPhraseWord, isHistoryWord, isLastWord, rangesB, rangesP, rangesT, isInRange, isNotTooLong, isNoTripleTwice, linesRefusal, bookRefusal, loadedLines, wordsAt, Entry, Triple, Book, entryOf, tripleOf, bookOfLines, bookOf}
 use Rattle.notes.specs.Derivation.{noEntry, entryAt}
 use Rattle.notes.proofs.Chains.{first-passes, rest-passes, test-passes}
 
@@ -89,7 +89,7 @@ pub record PLine (line : List ℤ) : Type 0 where
   pub b-from : 1 ≤ naturalAt line 2
   pub b-to : naturalAt line 2 ≤ 8
   pub long : length line ≡ naturalAt line 1 + naturalAt line 2 + 4
-  pub words : all isWord (dropLast (drop 3 line)) ≡ true
+  pub words : all isPhraseWord (dropLast (drop 3 line)) ≡ true
   pub score-within : Within 1_000_000 (numberAt line (3 + naturalAt line 1 + naturalAt line 2))
 
 size-p : (line : List ℤ) → isP line ≡ true → isWhole line ≡ true
@@ -116,7 +116,7 @@ p-line line p w e =
     let ab = both (isPhraseLength (numberAt line 1)) (isPhraseLength (numberAt line 2)) (s .0) in
     let a = both (leZ (pos 1) (numberAt line 1)) (leZ (numberAt line 1) (pos 8)) (ab .0) in
     let b = both (leZ (pos 1) (numberAt line 2)) (leZ (numberAt line 2) (pos 8)) (ab .1) in
-    let h = both (all isWord (dropLast (drop 3 line))) (isScore (numberAt line (length line - 1))) r in
+    let h = both (all isPhraseWord (dropLast (drop 3 line))) (isScore (numberAt line (length line - 1))) r in
     let at : length line - 1 ≡ 3 + naturalAt line 1 + naturalAt line 2 = (let z : length line ≡ naturalAt line 1 + naturalAt line 2 + 4 = s .1 in omega arith) in
     record {
       a-from = nat-low (numberAt line 1) 1 (a .0);
@@ -133,7 +133,7 @@ unfolding isInRange
 t-line line t e =
     let k : numberAt line 0 ≡ pos 3 = kind-is line 3 t in
     let r : rangesT line ≡ true = rw k at e in
-    score-within (numberAt line 4) (both (isWordOrStart (numberAt line 1) && isWordOrStart (numberAt line 2) && isWord (numberAt line 3)) (isScore (numberAt line 4)) r .1)
+    score-within (numberAt line 4) (both (isHistoryWord (numberAt line 1) && isHistoryWord (numberAt line 2) && isLastWord (numberAt line 3)) (isScore (numberAt line 4)) r .1)
 
 -- as many words as asked for, where the line has them
 words-long : (line : List ℤ) (from many : ℕ) → from + many ≤ length line → length (wordsAt line from many) ≡ many

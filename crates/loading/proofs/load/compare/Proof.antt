@@ -1,12 +1,12 @@
 -- The records in the list are those of the lines, and question 5 has passed, so there is room for their index; their comparison answers question 6.
 use mathlib.Core.Path.{sym, _∙_}
-use Rattle.loading.proofs.Answers.{four-few, repeated-so, different-so}
+use Rattle.loading.proofs.Answers.{judged-few, repeated-so, different-so}
 use borrow.Author.Needs.{needs}
 use Rattle.loading.proofs.load.compare.Statement.{statement}
 use Rattle.loading.proofs.load.compare.Tie as tie
 
 all-different-requires : tie.Need-all-different-requires
-all-different-requires c κs = record { parts = c .before .pre .0; few = four-few (c .before .args .s) (c .before .pre .1) }
+all-different-requires c κs = record { parts = c .before .pre .0; few = judged-few (c .before .args .s) (c .before .pre .1) }
 
 same-length : tie.Need-same-length
 same-length c = search needs
