@@ -2,7 +2,7 @@
 use Prim.Native.Nat.{ℕ, zero, suc, _+_, _-_, _≤_, _<_}
 use native.Mathlib.Omega.{arith}
 use mathlib.Core.Path.{_≡_, refl, sym, _∙_, ap}
-use mathlib.Core.Bool.{Bool, true, false, cond, _&&_}
+use mathlib.Core.Bool.{true, false}
 use mathlib.Core.List.{List, [], _∷_}
 use borrow.Author.Tests.{eq-eqb, ne-eqb, leb-true, leb-false, le-leb, lt-leb}
 use lib.Dec.{leb}
@@ -12,7 +12,7 @@ use lib.Seq.{getD-take, getD-drop, take-all, drop-drop, length-take-le}
 use Rattle.laws.specs.Integers.{eqℤ}
 use Rattle.laws.specs.Lists.{all}
 use Rattle.laws.proofs.Tests.{by-test, clash}
-use Rattle.notes.specs.Book.{numberAt, naturalAt, isB, isP, isT, isPhraseLength, sizeOf, isWhole, cutLines, loadedLines}
+use Rattle.notes.specs.Book.{numberAt, isP, sizeOf, isWhole, cutLines, loadedLines}
 use Rattle.notes.proofs.Sizes.{size-from}
 use Rattle.book.specs.Loaded.{sizeAt}
 

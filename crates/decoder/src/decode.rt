@@ -15,7 +15,7 @@ ghost use Rattle.notes.specs.Direction.{wordCount};
 ghost use Rattle.notes.specs.Search.{answer, entered};
 ghost use mathlib.Core.Bool.{_&&_};
 ghost use lib.Dec.{leb};
-ghost use Rattle.book.specs.Entries.{EntriesAt};
+ghost use Rattle.book.specs.Entries.{EntriesAt, entriesMost};
 ghost use Rattle.derivation.specs.Prepared.{Prepared};
 ghost use Rattle.options.specs.Options.{optionsFrom};
 ghost use Rattle.states.specs.Ghost.{Starting};
@@ -139,7 +139,7 @@ pub fn decode_with(
     store: &mut [i64],
 ) -> Core
     requires { ⌜ Prepared (now book) (now direction) (now index) (job .task) ⌝ }
-    requires { ⌜ optionsFrom + 32 * 4096 ≤ length (now options) ⌝ }
+    requires { ⌜ optionsFrom + 32 * entriesMost ≤ length (now options) ⌝ }
     ensures { λ r. ⌜ CoreDecodes (now (book .entry)) (now (direction .entry)) (job .width) room (now (words .entry)) (now (words .exit)) (now (store .entry)) (now (store .exit)) r ⌝ }
 {
     let t = job.task;

@@ -1,7 +1,7 @@
 -- The automaton ends at a line exactly where the text is as question 1 or 8 asks: by induction over the text, for every state,
 -- what is asked of the rest of a text by what has been read.
 use mathlib.Core.Path.{_≡_, refl, sym, ap, _∙_}
-use mathlib.Core.Bool.{Bool, true, false, not, cond, _&&_, _||_, and-true, and-false}
+use mathlib.Core.Bool.{Bool, true, false, not, cond, _&&_, and-true, and-false}
 use mathlib.Core.List.{List, [], _∷_}
 use Prim.Native.Nat.{ℕ, zero, suc, _+_, _*_, _-_}
 use native.Mathlib.Omega.{arith}
@@ -10,7 +10,7 @@ use lib.Dec.{eqb}
 use lib.IntN.{pos}
 use lib.ListN.{length}
 use Rattle.laws.specs.Lists.{all, isEmpty}
-use Rattle.laws.proofs.Tests.{by-test, clash}
+use Rattle.laws.proofs.Tests.{clash}
 use Rattle.notes.specs.Numerals.{isDigit, isPositive, isNumber}
 use Rattle.notes.specs.Book.{kindOfByte, kindOfLetter, isTextLine, isBookText}
 use Rattle.notes.specs.Direction.{isDirectionText}

@@ -12,7 +12,7 @@ ghost use lib.ListN.{length};
 ghost use Rattle.laws.specs.Lists.{eqList};
 ghost use Rattle.notes.specs.Book.{Entry, bookOf};
 ghost use Rattle.notes.specs.Derivation.{wordsFromTo};
-ghost use Rattle.book.specs.Entries.{EntriesAt};
+ghost use Rattle.book.specs.Entries.{EntriesAt, entriesMost};
 ghost use Rattle.derivation.specs.Model.{PhraseOf, Phrased};
 ghost use Rattle.options.specs.Options.{optionsFrom, startAt, optionIn, fittingAt, StartPut, Listed, OptionsOf};
 
@@ -118,7 +118,7 @@ pub fn list_options(
 )
     requires { ⌜ EntriesAt (now book) (now index) (t .phrases) ⌝ }
     requires { ⌜ length (now direction) ≤ 32 ⌝ }
-    requires { ⌜ optionsFrom + 32 * 4096 ≤ length (now options) ⌝ }
+    requires { ⌜ optionsFrom + 32 * entriesMost ≤ length (now options) ⌝ }
     ensures { λ r. ⌜ OptionsOf (bookOf (now (book .entry))) (now (direction .entry)) (now (options .exit)) ⌝ }
 {
     let mut count = 0;

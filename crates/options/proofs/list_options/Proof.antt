@@ -7,6 +7,7 @@ use mathlib.Core.List.{List}
 use lib.ListN.{length}
 use Rattle.notes.specs.Book.{Book, bookOf}
 use Rattle.notes.specs.Direction.{wordCount}
+use Rattle.book.specs.Entries.{entriesMost}
 use Rattle.options.proofs.Listing.{Filled, filled-none, filled-more, at-most, options-are}
 use Rattle.options.proofs.list_options.Statement.{statement}
 use Rattle.options.proofs.list_options.Tie as tie
@@ -18,7 +19,7 @@ use Rattle.options.proofs.put_start.Reads as put-start-reads
 record Filling (book : Book) (direction options₀ options : List ℕ) (i count : ℕ) : Type 0 where
   inside : i ≤ length direction
   long : length options ≡ length options₀
-  few : count ≤ i * 4_096
+  few : count ≤ i * entriesMost
   filled : Filled book direction options i count
 
 abbrev Inv-loop : tie.InvT-loop
