@@ -13,7 +13,7 @@ use Rattle.laws.proofs.Bits.{one-le}
 use Rattle.laws.proofs.Lists.{count-cons, count-none}
 use Rattle.laws.proofs.Tests.{same-test}
 use Rattle.notes.specs.Questions.{_unless_, _orelse_}
-use Rattle.notes.specs.Book.{phrasesMost, triplesMost, isKind, isB, isP, isT, isWhole, isOneBFirst, isInRange, isNotTooLong, isNoTripleTwice, linesRefusal}
+use Rattle.notes.specs.Book.{Form, phrasesMost, triplesMost, isKind, isB, isP, isT, isWhole, isOneBFirst, isInRange, isNotTooLong, isNoTripleTwice, linesRefusal}
 use Rattle.book.specs.declared.survey.Survey.{Survey}
 use Rattle.book.specs.Survey.{fresh, withLine, surveyFrom, surveyRefusal, Few}
 
@@ -77,17 +77,17 @@ survey-few : (lines : List (List ℤ)) → leb (surveyFrom fresh lines .ps) phra
 unfolding isNotTooLong
 survey-few lines = rw (survey-ps lines, survey-ts lines, and-true (leb (count isT lines) triplesMost))
 
-pub survey-refusal : (lines : List (List ℤ)) → all isWhole lines ≡ true → linesRefusal lines ≡ surveyRefusal (surveyFrom fresh lines) orelse 6 unless isNoTripleTwice lines
+pub survey-refusal : (form : Form) (lines : List (List ℤ)) → all (isWhole form) lines ≡ true → linesRefusal form lines ≡ surveyRefusal (surveyFrom fresh lines) orelse 6 unless isNoTripleTwice lines
 unfolding linesRefusal surveyRefusal
-survey-refusal lines w =
+survey-refusal form lines w =
     rw (w, survey-one lines, survey-ranged fresh lines, survey-few lines)
     (sym (orelse-assoc (3 unless isOneBFirst lines) (4 unless all isInRange lines orelse 5 unless isNotTooLong lines) (6 unless isNoTripleTwice lines)
     ∙ ap (λ (m : ℕ). 3 unless isOneBFirst lines orelse m) (orelse-assoc (4 unless all isInRange lines) (5 unless isNotTooLong lines) (6 unless isNoTripleTwice lines))))
 
 -- a line that is not whole
-pub broken-refusal : (lines : List (List ℤ)) → all isWhole lines ≡ false → linesRefusal lines ≡ 2
+pub broken-refusal : (form : Form) (lines : List (List ℤ)) → all (isWhole form) lines ≡ false → linesRefusal form lines ≡ 2
 unfolding linesRefusal
-broken-refusal lines w = rw w
+broken-refusal form lines w = rw w
 
 -- the questions, asked one after the other
 module _ (s : Survey) where

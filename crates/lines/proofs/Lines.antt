@@ -13,7 +13,7 @@ use Rattle.laws.specs.Lists.{all}
 use Rattle.laws.proofs.Tests.{both}
 use Rattle.laws.proofs.Linear.{signed}
 use Rattle.notes.specs.Questions.{withinℤ}
-use Rattle.notes.specs.Book.{numberAt, naturalAt, isB, isP, isT, isPhraseLength, phraseSize, sizeOf, isWhole, isScore, isPhraseWord, isHistoryWord, isLastWord, rangesB, rangesP, rangesT, isInRange}
+use Rattle.notes.specs.Book.{Form, InText, numberAt, naturalAt, isB, isP, isT, isPhraseLength, phraseSize, sizeOf, isWhole, isScore, isPhraseWord, isHistoryWord, isLastWord, rangesB, rangesP, rangesT, isInRange}
 
 -- ---- the kind
 
@@ -40,21 +40,21 @@ module _ (line : List ℤ) where
   pub phrase-both : isPhraseLength (numberAt line 1) ≡ true → isPhraseLength (numberAt line 2) ≡ true → naturalAt line 1 + naturalAt line 2 + 4 ≡ phraseSize line
   phrase-both h k = rw (h, k)
 
-  pub size-b : isB line ≡ true → 4 ≡ sizeOf line
+  pub size-b : (form : Form) → isB line ≡ true → 4 ≡ sizeOf form line
   unfolding sizeOf
-  size-b h = rw h
+  size-b form h = rw h
 
-  pub size-p : isB line ≡ false → isP line ≡ true → phraseSize line ≡ sizeOf line
+  pub size-p : (form : Form) → isB line ≡ false → isP line ≡ true → phraseSize line ≡ sizeOf form line
   unfolding sizeOf
-  size-p h k = rw (h, k)
+  size-p form h k = rw (h, k)
 
-  pub size-t : isB line ≡ false → isP line ≡ false → isT line ≡ true → 5 ≡ sizeOf line
+  pub size-t : (form : Form) → isB line ≡ false → isP line ≡ false → isT line ≡ true → 5 ≡ sizeOf form line
   unfolding sizeOf
-  size-t h k l = rw (h, k, l)
+  size-t form h k l = rw (h, k, l)
 
-  pub size-none : isB line ≡ false → isP line ≡ false → isT line ≡ false → 0 ≡ sizeOf line
+  pub size-none : (form : Form) → isB line ≡ false → isP line ≡ false → isT line ≡ false → 0 ≡ sizeOf form line
   unfolding sizeOf
-  size-none h k l = rw (h, k, l)
+  size-none form h k l = rw (h, k, l)
 
   pub range-b : isB line ≡ true → rangesB line ≡ isInRange line
   unfolding isInRange
@@ -72,12 +72,12 @@ module _ (line : List ℤ) where
   unfolding isInRange
   range-none h k l = rw (h, k, l)
 
-pub whole-empty : (line : List ℤ) → length line ≡ 0 → false ≡ isWhole line
+pub whole-empty : (line : List ℤ) → length line ≡ 0 → false ≡ isWhole InText line
 unfolding isWhole
 whole-empty [] h = refl
 whole-empty (z ∷ line) h = absurd (omega arith)
 
-pub whole-some : (line : List ℤ) (n : ℕ) → (length line ≡ 0 → ⊥) → n ≡ sizeOf line → eqb (length line) n ≡ isWhole line
+pub whole-some : (line : List ℤ) (n : ℕ) → (length line ≡ 0 → ⊥) → n ≡ sizeOf InText line → eqb (length line) n ≡ isWhole InText line
 unfolding isWhole
 whole-some [] n h e = absurd (h refl)
 whole-some (z ∷ line) n h e = rw e

@@ -8,7 +8,7 @@ ghost use lib.ListN.{length, drop};
 ghost use Rattle.laws.specs.Lists.{all};
 ghost use Rattle.notes.specs.Questions.{withinℤ};
 ghost use Rattle.laws.specs.Integers.{natOf};
-ghost use Rattle.notes.specs.Book.{numberAt, naturalAt, isKind, isPhraseLength, phraseSize, sizeOf, isWhole, isScore, isWord, isPhraseWord, isHistoryWord, isLastWord, rangesB, rangesP, rangesT, isInRange};
+ghost use Rattle.notes.specs.Book.{Form, InText, numberAt, naturalAt, isKind, isPhraseLength, phraseSize, sizeOf, isWhole, isScore, isWord, isPhraseWord, isHistoryWord, isLastWord, rangesB, rangesP, rangesT, isInRange};
 
 // The number, or 0 where it is negative.
 pub fn natural(x: i32) -> usize
@@ -59,9 +59,9 @@ fn size_of_phrase(line: &[i32]) -> usize
     natural_at(line, 1) + natural_at(line, 2) + 4
 }
 
-// How many numbers the line that stands at the front takes; 0 where that cannot be told (question 2).
+// How many numbers the line that stands at the front takes, in a text and in a loaded list alike; 0 where that cannot be told (question 2).
 pub fn size_of(line: &[i32]) -> usize
-    ensures { λ r. ⌜ r ≡ sizeOf (now (line .entry)) ⌝ }
+    ensures { λ r. ⌜ ((form : Form) → r ≡ sizeOf form (now (line .entry))) ⌝ }
 {
     if is_kind(line, 1) {
         return 4;
@@ -75,9 +75,9 @@ pub fn size_of(line: &[i32]) -> usize
     0
 }
 
-// Question 2, of a line.
+// Question 2, of a text's line.
 pub fn is_whole(line: &[i32]) -> bool
-    ensures { λ r. ⌜ r ≡ isWhole (now (line .entry)) ⌝ }
+    ensures { λ r. ⌜ r ≡ isWhole InText (now (line .entry)) ⌝ }
 {
     if line.len() == 0 {
         return false;

@@ -12,7 +12,7 @@ use Rattle.laws.specs.Lists.{all, keep, count, noneTwice}
 use Rattle.laws.proofs.Lists.{keep-length}
 use Rattle.laws.proofs.Tests.{both}
 use Rattle.notes.specs.Questions.{_unless_, _orelse_, number}
-use Rattle.notes.specs.Book.{phrasesMost, triplesMost, isP, isT, isWhole, isOneBFirst, isInRange, isNoTripleTwice, linesRefusal, entryOf, tripleOf, bookOfLines, loadedLines}
+use Rattle.notes.specs.Book.{Form, InList, phrasesMost, triplesMost, isP, isT, isWhole, isOneBFirst, isInRange, isNoTripleTwice, linesRefusal, entryOf, tripleOf, bookOfLines, loadedLines}
 use Rattle.notes.specs.declared.Refusal.{Refusal}
 use Rattle.notes.proofs.Chains.{rest-passes, test-passes}
 use Rattle.ngrams.specs.Parts.{recordsMost, recordsFrom, recordsEnd, KeptFrom}
@@ -60,9 +60,9 @@ later false b c m j e two three four = absurd (two (sym e))
 
 -- ════ question 6
 
-module _ {lines : List (List ℤ)} {index₀ index : List ℤ} {s : Survey} (w : WholeAs lines index₀ index s) (room : recordsEnd ≤ length index) (four : surveyRefusal s ≡ 0) where
-  refusal-6 : linesRefusal lines ≡ 6 unless isNoTripleTwice lines
-  refusal-6 = survey-refusal lines (w .whole) ∙ ap (λ (k : ℕ). k orelse 6 unless isNoTripleTwice lines) (ap surveyRefusal (sym (w .surveyed)) ∙ four)
+module _ {form : Form} {lines : List (List ℤ)} {index₀ index : List ℤ} {s : Survey} (w : WholeAs form lines index₀ index s) (room : recordsEnd ≤ length index) (four : surveyRefusal s ≡ 0) where
+  refusal-6 : linesRefusal form lines ≡ 6 unless isNoTripleTwice lines
+  refusal-6 = survey-refusal form lines (w .whole) ∙ ap (λ (k : ℕ). k orelse 6 unless isNoTripleTwice lines) (ap surveyRefusal (sym (w .surveyed)) ∙ four)
 
   counted : s .ts ≡ count isT lines
   counted = ap (λ (x : Survey). x .ts) (w .surveyed) ∙ survey-ts lines
@@ -71,9 +71,9 @@ module _ {lines : List (List ℤ)} {index₀ index : List ℤ} {s : Survey} (w :
   unfolding linesRefusal
   ranged = by (isNoTripleTwice lines) refusal-6
     where
-      by : (b : Bool) → linesRefusal lines ≡ 6 unless b → all isInRange lines ≡ true
-      by true e = later (all isWhole lines) (isOneBFirst lines) (all isInRange lines) _ 0 e (omega arith) (omega arith) (omega arith)
-      by false e = later (all isWhole lines) (isOneBFirst lines) (all isInRange lines) _ 6 e (omega arith) (omega arith) (omega arith)
+      by : (b : Bool) → linesRefusal form lines ≡ 6 unless b → all isInRange lines ≡ true
+      by true e = later (all (isWhole form) lines) (isOneBFirst lines) (all isInRange lines) _ 0 e (omega arith) (omega arith) (omega arith)
+      by false e = later (all (isWhole form) lines) (isOneBFirst lines) (all isInRange lines) _ 6 e (omega arith) (omega arith) (omega arith)
 
   -- the records are the numbers of the T lines
   copied : Copied index (keep isT lines)
@@ -90,13 +90,13 @@ module _ {lines : List (List ℤ)} {index₀ index : List ℤ} {s : Survey} (w :
   held = ap (triplesIn index) counted ∙ triples-are index lines copied
 
   answer-6 : noneTwice sameKey (keysIn index (s .ts)) ≡ isNoTripleTwice lines
-  answer-6 = ap (λ (n : ℕ). noneTwice sameKey (keysIn index n)) counted ∙ answers-6 index lines copied (w .whole) ranged
+  answer-6 = ap (λ (n : ℕ). noneTwice sameKey (keysIn index n)) counted ∙ answers-6 form index lines copied (w .whole) ranged
 
-  pub repeated-so : false ≡ noneTwice sameKey (keysIn index (s .ts)) → linesRefusal lines ≡ 6
+  pub repeated-so : false ≡ noneTwice sameKey (keysIn index (s .ts)) → linesRefusal form lines ≡ 6
   repeated-so e = refusal-6 ∙ ap (λ (b : Bool). 6 unless b) (sym (e ∙ answer-6))
 
   -- `all_different` left the records as they were
-  pub different-so : {after : List ℤ} → KeptFrom recordsFrom index after → true ≡ noneTwice sameKey (keysIn index (s .ts)) → Indexed after (s .ts) → Known (linesRefusal lines) (bookOfLines lines) after s
+  pub different-so : {after : List ℤ} → KeptFrom recordsFrom index after → true ≡ noneTwice sameKey (keysIn index (s .ts)) → Indexed after (s .ts) → Known (linesRefusal form lines) (bookOfLines lines) after s
   unfolding bookOfLines
   different-so same e x = record {
     passes = refusal-6 ∙ ap (λ (b : Bool). 6 unless b) (sym (e ∙ answer-6));
@@ -108,16 +108,16 @@ module _ {lines : List (List ℤ)} {index₀ index : List ℤ} {s : Survey} (w :
   }
 
 -- a refusal by questions 3 to 5 is the lines' refusal
-pub judged-so : {lines : List (List ℤ)} {index₀ index : List ℤ} {s : Survey} → WholeAs lines index₀ index s → (refusal : Refusal) → number refusal ≡ surveyRefusal s
-    → linesRefusal lines ≡ number refusal
-judged-so {lines} w refusal e =
-    survey-refusal lines (w .whole)
+pub judged-so : {form : Form} {lines : List (List ℤ)} {index₀ index : List ℤ} {s : Survey} → WholeAs form lines index₀ index s → (refusal : Refusal) → number refusal ≡ surveyRefusal s
+    → linesRefusal form lines ≡ number refusal
+judged-so {form} {lines} w refusal e =
+    survey-refusal form lines (w .whole)
     ∙ ap (λ (j : ℕ). j orelse 6 unless isNoTripleTwice lines) (ap surveyRefusal (sym (w .surveyed)) ∙ sym e)
     ∙ refused-first (number refusal) _ (number-from refusal)
 
 -- ════ a loaded list
 
 -- its survey is that of its lines
-pub survey-loaded : (loaded index₀ index₁ : List ℤ) (r : Surveyed) → SurveyOf loaded index₀ index₁ r → SurveyIs (loadedLines loaded) index₀ index₁ r
+pub survey-loaded : (loaded index₀ index₁ : List ℤ) (r : Surveyed) → SurveyOf loaded index₀ index₁ r → SurveyIs InList (loadedLines loaded) index₀ index₁ r
 survey-loaded loaded index₀ index₁ (Whole s) e = record { whole = e .0; surveyed = e .1; gathered = e .2 }
 survey-loaded loaded index₀ index₁ Broken e = e

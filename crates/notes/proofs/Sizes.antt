@@ -15,7 +15,7 @@ use Rattle.laws.specs.Lists.{all, any, count, isEmpty}
 use Rattle.laws.proofs.Lists.{count-cons, count-none}
 use Rattle.laws.proofs.Tests.{if-ind, both, clash}
 use Rattle.laws.proofs.Linear.{signed}
-use Rattle.notes.specs.Book.{numberAt, isPhraseLength, phraseSize, kinds, isB, sizeOf, isWhole, isOneBFirst, isNotTooLong}
+use Rattle.notes.specs.Book.{Form, numberAt, isPhraseLength, phraseSize, kinds, isB, sizeOf, isWhole, isOneBFirst, isNotTooLong}
 use Rattle.notes.proofs.Table.{said-ind, counted, allowed, few-allowed, counted-next}
 use Rattle.notes.proofs.Ranges.{Passed}
 
@@ -31,9 +31,9 @@ phrase-to line =
     (λ t. let h = both (isPhraseLength (numberAt line 1)) (isPhraseLength (numberAt line 2)) t in
     omega (arith, eight (numberAt line 1) (h .0), eight (numberAt line 2) (h .1))) (λ t. omega arith)
 
-pub size-to : (line : List ℤ) → sizeOf line ≤ 20
+pub size-to : (form : Form) (line : List ℤ) → sizeOf form line ≤ 20
 unfolding sizeOf
-size-to line = said-ind (λ row. row .size line) line (λ (n : ℕ). n ≤ 20) 1 kinds (omega arith) (omega arith, (phrase-to line, (omega arith, tt)))
+size-to form line = said-ind (λ row. row .size form line) line (λ (n : ℕ). n ≤ 20) 1 kinds (omega arith) (omega arith, (phrase-to line, (omega arith, tt)))
 
 -- a size is 0, or four at least
 abbrev From : ℕ → Type 0
@@ -42,39 +42,39 @@ From n = (n ≡ 0 → ⊥) → 4 ≤ n
 phrase-from : (line : List ℤ) → From (phraseSize line)
 phrase-from line = if-ind (isPhraseLength (numberAt line 1) && isPhraseLength (numberAt line 2)) From (λ t h. omega arith) (λ t h. absurd (h refl))
 
-pub size-from : (line : List ℤ) → (sizeOf line ≡ 0 → ⊥) → 4 ≤ sizeOf line
+pub size-from : (form : Form) (line : List ℤ) → (sizeOf form line ≡ 0 → ⊥) → 4 ≤ sizeOf form line
 unfolding sizeOf
-size-from line = said-ind (λ row. row .size line) line From 1 kinds (λ h. absurd (h refl)) ((λ h. omega arith), (phrase-from line, ((λ h. omega arith), tt)))
+size-from form line = said-ind (λ row. row .size form line) line From 1 kinds (λ h. absurd (h refl)) ((λ h. omega arith), (phrase-from line, ((λ h. omega arith), tt)))
 
 -- a whole line has as many numbers as its kind takes, and so four at least
-pub whole-size : (line : List ℤ) → isWhole line ≡ true → length line ≡ sizeOf line
+pub whole-size : (form : Form) (line : List ℤ) → isWhole form line ≡ true → length line ≡ sizeOf form line
 unfolding isWhole
-whole-size line w = eqb-true (length line) (sizeOf line) (both (not (isEmpty line)) (eqb (length line) (sizeOf line)) w .1)
+whole-size form line w = eqb-true (length line) (sizeOf form line) (both (not (isEmpty line)) (eqb (length line) (sizeOf form line)) w .1)
 
-whole-some : (line : List ℤ) → isWhole line ≡ true → sizeOf line ≡ 0 → ⊥
+whole-some : (form : Form) (line : List ℤ) → isWhole form line ≡ true → sizeOf form line ≡ 0 → ⊥
 unfolding isWhole
-whole-some [] w z = clash w refl
-whole-some (a ∷ line) w z = let e = whole-size (a ∷ line) w in omega arith
+whole-some form [] w z = clash w refl
+whole-some form (a ∷ line) w z = let e = whole-size form (a ∷ line) w in omega arith
 
-pub four-numbers : (line : List ℤ) → isWhole line ≡ true → 4 ≤ length line
-four-numbers line w = let e = whole-size line w in let s = size-from line (whole-some line w) in omega arith
+pub four-numbers : (form : Form) (line : List ℤ) → isWhole form line ≡ true → 4 ≤ length line
+four-numbers form line w = let e = whole-size form line w in let s = size-from form line (whole-some form line w) in omega arith
 
 -- a row of 20 places serves every line: one of more numbers has the size of no kind, so question 2 refuses it
-pub too-long : (line : List ℤ) → 20 < length line → isWhole line ≡ false
+pub too-long : (form : Form) (line : List ℤ) → 20 < length line → isWhole form line ≡ false
 unfolding isWhole
-too-long line h =
-    let s = size-to line in
-    ap (λ x. not (isEmpty line) && x) (ne-eqb (length line) (sizeOf line) (λ e. omega arith)) ∙ and-false (not (isEmpty line))
+too-long form line h =
+    let s = size-to form line in
+    ap (λ x. not (isEmpty line) && x) (ne-eqb (length line) (sizeOf form line) (λ e. omega arith)) ∙ and-false (not (isEmpty line))
 
 -- ════ all lines
 
 -- a whole line is of one of the kinds
-known : (lines : List (List ℤ)) → all isWhole lines ≡ true → length lines ≤ counted lines 1 kinds
+known : (form : Form) (lines : List (List ℤ)) → all (isWhole form) lines ≡ true → length lines ≤ counted lines 1 kinds
 unfolding sizeOf
-known [] w = omega arith
-known (line ∷ lines) w =
-    let h = both (isWhole line) (all isWhole lines) w in
-    omega (arith, counted-next (λ row. row .size line) line lines 1 kinds (whole-some line (h .0)), known lines (h .1))
+known form [] w = omega arith
+known form (line ∷ lines) w =
+    let h = both (isWhole form line) (all (isWhole form) lines) w in
+    omega (arith, counted-next (λ row. row .size form line) line lines 1 kinds (whole-some form line (h .0)), known form lines (h .1))
 
 one-b : (lines : List (List ℤ)) → isOneBFirst lines ≡ true → count isB lines ≤ 1
 unfolding isOneBFirst
@@ -89,6 +89,6 @@ one-b (line ∷ lines) e =
     one-most false = omega arith
 
 -- lines that 2 to 6 pass: as many as the table allows
-pub passed-few : (lines : List (List ℤ)) → Passed lines → length lines ≤ allowed kinds
+pub passed-few : (form : Form) (lines : List (List ℤ)) → Passed form lines → length lines ≤ allowed kinds
 unfolding isNotTooLong
-passed-few lines p = omega (arith, known lines (p .whole), one-b lines (p .one-b), few-allowed lines 2 (drop 1 kinds) (p .short))
+passed-few form lines p = omega (arith, known form lines (p .whole), one-b lines (p .one-b), few-allowed lines 2 (drop 1 kinds) (p .short))

@@ -76,13 +76,18 @@ phrasesMost = 4_096
 abbrev pub triplesMost : ℕ
 triplesMost = 8_192
 
+-- where a line stands: in a text, or in a loaded list
+pub data Form : Type 0 where
+  InText : Form
+  InList : Form
+
 -- a row of the table
 pub record Kind : Type 0 where
   -- the byte of its letter
   pub letter : ℕ
-  -- how many numbers its line takes, its kind the first; 0 where the numbers that tell it are out of range or missing. In a text
-  -- and in a loaded list alike: "A loaded book is the same numbers in the same order"
-  pub size : List ℤ → ℕ
+  -- how many numbers its line takes in a text, and in a loaded list, its kind the first; 0 where the numbers that tell it are out
+  -- of range or missing. Both are the same: "A loaded book is the same numbers in the same order"
+  pub size : Form → List ℤ → ℕ
   -- whether the numbers of a line that has that size are in their ranges
   pub ranges : List ℤ → Bool
   -- how many such lines a book may have
@@ -90,15 +95,15 @@ pub record Kind : Type 0 where
 
 -- B,d,eta,u; "Is the first line a B line, and the only one?"
 abbrev pub kindB : Kind
-kindB = record { letter = 66; size = λ line. 4; ranges = rangesB; most = 1 }
+kindB = record { letter = 66; size = λ form line. 4; ranges = rangesB; most = 1 }
 
 -- P,a,b,x1..xa,y1..yb,g
 abbrev pub kindP : Kind
-kindP = record { letter = 80; size = phraseSize; ranges = rangesP; most = phrasesMost }
+kindP = record { letter = 80; size = λ form. phraseSize; ranges = rangesP; most = phrasesMost }
 
 -- T,v,w,y,s
 abbrev pub kindT : Kind
-kindT = record { letter = 84; size = λ line. 5; ranges = rangesT; most = triplesMost }
+kindT = record { letter = 84; size = λ form line. 5; ranges = rangesT; most = triplesMost }
 
 -- "the letters B, P, T as 1, 2, 3": the k-th row is kind k. "So the three kinds take 4, a + b + 4 and 5 numbers."
 abbrev pub kinds : List Kind
@@ -168,13 +173,13 @@ textLines text = map lineNumbers (linesOf text)
 
 -- ════ lines as numbers: questions 2 to 6
 
--- how many numbers the line takes that stands at the front of a list; 0 for an unknown kind
-unfoldable pub sizeOf : List ℤ → ℕ
-sizeOf line = said 0 (λ row. row .size line) line
+-- how many numbers the line takes that stands at the front; 0 for an unknown kind
+unfoldable pub sizeOf : Form → List ℤ → ℕ
+sizeOf form line = said 0 (λ row. row .size form line) line
 
 -- question 2, of a line: "Has each line the fields of its kind, with a and b in range?"
-unfoldable pub isWhole : List ℤ → Bool
-isWhole line = not (isEmpty line) && eqb (length line) (sizeOf line)
+unfoldable pub isWhole : Form → List ℤ → Bool
+isWhole form line = not (isEmpty line) && eqb (length line) (sizeOf form line)
 
 -- the lines of a loaded list. "So too for a loaded list with an unknown kind or a last line that is cut off": what cannot
 -- be cut is one last line, which is not whole. `fuel` is the list's length, and each line takes at least one number
@@ -182,7 +187,7 @@ unfoldable pub cutLines : ℕ → List ℤ → List (List ℤ)
 cutLines zero numbers = []
 cutLines (suc fuel) [] = []
 cutLines (suc fuel) (z ∷ numbers) =
-    elim (sizeOf (z ∷ numbers)) [
+    elim (sizeOf InList (z ∷ numbers)) [
       | zero ↦ (z ∷ numbers) ∷ []
       | suc size ↦ (z ∷ take size numbers) ∷ cutLines fuel (drop size numbers)
     ]
@@ -212,9 +217,9 @@ unfoldable pub isNoTripleTwice : List (List ℤ) → Bool
 isNoTripleTwice lines = noneTwice (eqList eqℤ) (map tripleKey (keep isT lines))
 
 -- questions 2 to 6
-unfoldable pub linesRefusal : List (List ℤ) → ℕ
-linesRefusal lines =
-    2 unless all isWhole lines
+unfoldable pub linesRefusal : Form → List (List ℤ) → ℕ
+linesRefusal form lines =
+    2 unless all (isWhole form) lines
     orelse 3 unless isOneBFirst lines
     orelse 4 unless all isInRange lines
     orelse 5 unless isNotTooLong lines
@@ -222,7 +227,7 @@ linesRefusal lines =
 
 -- "Any call that takes a loaded book ..: 2 to 6."
 unfoldable pub bookRefusal : List ℤ → ℕ
-bookRefusal loaded = linesRefusal (loadedLines loaded)
+bookRefusal loaded = linesRefusal InList (loadedLines loaded)
 
 -- ════ reading a book: questions 1 to 7
 
@@ -234,7 +239,7 @@ loadedOf text = concat (textLines text)
 unfoldable pub readRefusal : List ℕ → ℕ → ℕ
 readRefusal text places =
     1 unless isBookText text
-    orelse linesRefusal (textLines text)
+    orelse linesRefusal InText (textLines text)
     orelse 7 unless leb (length (loadedOf text)) places
 
 -- ════ the model that a loaded book states

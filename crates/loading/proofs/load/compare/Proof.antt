@@ -15,7 +15,7 @@ returns : tie.Need-returns
 returns c =
     let x = c .before .before .all-different .ensures in
     let s = c .before .before .before .before in
-    λ lines index₀ w. different-so w (s .pre .0) (s .pre .1) (x .kept) (sym (c .if1 .taken) ∙ x .answer) (x .indexed (c .if1 .taken))
+    λ form lines index₀ w. different-so w (s .pre .0) (s .pre .1) (x .kept) (sym (c .if1 .taken) ∙ x .answer) (x .indexed (c .if1 .taken))
 
 same-length-2 : tie.Need-same-length-2
 same-length-2 c = search needs
@@ -24,7 +24,7 @@ returns-2 : tie.Need-returns-2
 returns-2 c =
     let x = c .before .before .all-different .ensures in
     let s = c .before .before .before .before in
-    λ lines index₀ w. repeated-so w (s .pre .0) (s .pre .1) (sym (c .if1 .left) ∙ x .answer)
+    λ form lines index₀ w. repeated-so w (s .pre .0) (s .pre .1) (sym (c .if1 .left) ∙ x .answer)
 
 pub compare-spec : {M : Type 1} → statement M
 compare-spec =

@@ -25,7 +25,7 @@ returns : tie.Need-returns
 returns c = search needs
 
 returns-2 : tie.Need-returns-2
-returns-2 c = λ lines index₀ w. judged-so w (c .before .refusal .given .0 .0) (sym (ap refusalOf (c .before .refusal .given .1)) ∙ c .before .before .before .judge .ensures)
+returns-2 c = λ form lines index₀ w. judged-so w (c .before .refusal .given .0 .0) (sym (ap refusalOf (c .before .refusal .given .1)) ∙ c .before .before .before .judge .ensures)
 
 pub settle-whole-spec : {M : Type 1} → statement M
 settle-whole-spec =
