@@ -69,10 +69,11 @@ rangesT line =
     && isLastWord (numberAt line 3)
     && isScore (numberAt line 4)
 
--- "At most 4,096 P and 8,192 T lines."
+-- how many P lines a book may have: "At most 4,096 P and 8,192 T lines."
 abbrev pub phrasesMost : ℕ
 phrasesMost = 4_096
 
+-- how many T lines
 abbrev pub triplesMost : ℕ
 triplesMost = 8_192
 
@@ -109,16 +110,19 @@ kindT = record { letter = 84; size = λ form line. 5; ranges = rangesT; most = t
 abbrev pub kinds : List Kind
 kinds = kindB ∷ kindP ∷ kindT ∷ []
 
--- the line is of kind k
+-- the line is of kind k, the k-th row's
 abbrev pub isKind : ℕ → List ℤ → Bool
 isKind k line = eqℤ (numberAt line 0) (pos k)
 
+-- a B line
 abbrev pub isB : List ℤ → Bool
 isB line = isKind 1 line
 
+-- a P line
 abbrev pub isP : List ℤ → Bool
 isP line = isKind 2 line
 
+-- a T line
 abbrev pub isT : List ℤ → Bool
 isT line = isKind 3 line
 
@@ -216,7 +220,7 @@ tripleKey line = take 3 (drop 1 line)
 unfoldable pub isNoTripleTwice : List (List ℤ) → Bool
 isNoTripleTwice lines = noneTwice (eqList eqℤ) (map tripleKey (keep isT lines))
 
--- questions 2 to 6
+-- questions 2 to 6, of the lines of a text or of a loaded list
 unfoldable pub linesRefusal : Form → List (List ℤ) → ℕ
 linesRefusal form lines =
     2 unless all (isWhole form) lines
