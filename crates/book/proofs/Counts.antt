@@ -2,7 +2,7 @@
 use Prim.Native.Nat.{ℕ, zero, suc, _+_, _≤_}
 use native.Mathlib.Omega.{arith}
 use mathlib.Core.Path.{_≡_, refl, sym, _∙_, ap}
-use mathlib.Core.Bool.{Bool, true, false, not, _&&_, and-assoc}
+use mathlib.Core.Bool.{Bool, true, false, not, _&&_, and-true, and-assoc}
 use mathlib.Core.List.{List, [], _∷_}
 use borrow.Author.Tests.{eqb-true, eq-eqb, ne-eqb}
 use lib.Dec.{eqb, leb}
@@ -13,32 +13,29 @@ use Rattle.laws.proofs.Bits.{one-le}
 use Rattle.laws.proofs.Lists.{count-cons, count-none}
 use Rattle.laws.proofs.Tests.{same-test}
 use Rattle.notes.specs.Questions.{_unless_, _orelse_}
-use Rattle.notes.specs.Book.{isB, isP, isT, isWhole, isOneBFirst, isInRange, isNotTooLong, isNoTripleTwice, linesRefusal}
+use Rattle.notes.specs.Book.{Form, phrasesMost, triplesMost, isKind, isB, isP, isT, isWhole, isOneBFirst, isInRange, isNotTooLong, isNoTripleTwice, linesRefusal}
 use Rattle.book.specs.declared.survey.Survey.{Survey}
-use Rattle.book.specs.Survey.{fresh, withLine, surveyFrom, fourOf, Few}
+use Rattle.book.specs.Survey.{fresh, withLine, surveyFrom, surveyRefusal, Few}
 
 -- ---- the counts and the ranges
 
+-- a count that grows by one with each line of kind k
+count-from : (k : ℕ) (f : Survey → ℕ) → ((acc : Survey) (line : List ℤ) → f (withLine acc line) ≡ f acc + one (isKind k line)) → (acc : Survey) (lines : List (List ℤ)) → f (surveyFrom acc lines) ≡ f acc + count (isKind k) lines
+unfolding surveyFrom
+count-from k f h acc [] = omega arith
+count-from k f h acc (line ∷ lines) = omega (arith, count-from k f h (withLine acc line) lines, h acc line, count-cons (isKind k) line lines)
+
 bs-from : (acc : Survey) (lines : List (List ℤ)) → surveyFrom acc lines .bs ≡ acc .bs + count isB lines
-unfolding surveyFrom withLine
-bs-from acc [] = omega arith
-bs-from acc (line ∷ lines) = omega (arith, bs-from (withLine acc line) lines, count-cons isB line lines)
-
-ps-from : (acc : Survey) (lines : List (List ℤ)) → surveyFrom acc lines .ps ≡ acc .ps + count isP lines
-unfolding surveyFrom withLine
-ps-from acc [] = omega arith
-ps-from acc (line ∷ lines) = omega (arith, ps-from (withLine acc line) lines, count-cons isP line lines)
-
-ts-from : (acc : Survey) (lines : List (List ℤ)) → surveyFrom acc lines .ts ≡ acc .ts + count isT lines
-unfolding surveyFrom withLine
-ts-from acc [] = omega arith
-ts-from acc (line ∷ lines) = omega (arith, ts-from (withLine acc line) lines, count-cons isT line lines)
+unfolding withLine
+bs-from = count-from 1 (λ s. s .bs) (λ acc line. refl)
 
 pub survey-ps : (lines : List (List ℤ)) → surveyFrom fresh lines .ps ≡ count isP lines
-survey-ps lines = ps-from fresh lines ∙ omega arith
+unfolding withLine
+survey-ps lines = count-from 2 (λ s. s .ps) (λ acc line. refl) fresh lines ∙ omega arith
 
 pub survey-ts : (lines : List (List ℤ)) → surveyFrom fresh lines .ts ≡ count isT lines
-survey-ts lines = ts-from fresh lines ∙ omega arith
+unfolding withLine
+survey-ts lines = count-from 3 (λ s. s .ts) (λ acc line. refl) fresh lines ∙ omega arith
 
 survey-ranged : (acc : Survey) (lines : List (List ℤ)) → surveyFrom acc lines .ranged ≡ acc .ranged && all isInRange lines
 unfolding surveyFrom withLine
@@ -76,35 +73,39 @@ orelse-assoc : (j k m : ℕ) → (j orelse k) orelse m ≡ j orelse k orelse m
 orelse-assoc zero k m = refl
 orelse-assoc (suc j) k m = refl
 
-pub survey-refusal : (lines : List (List ℤ)) → all isWhole lines ≡ true → linesRefusal lines ≡ fourOf (surveyFrom fresh lines) orelse 6 unless isNoTripleTwice lines
-unfolding linesRefusal fourOf isNotTooLong
-survey-refusal lines w =
-    rw (w, survey-one lines, survey-ranged fresh lines, survey-ps lines, survey-ts lines)
-    (sym (orelse-assoc (3 unless isOneBFirst lines) (4 unless all isInRange lines orelse 5 unless (leb (count isP lines) 4_096 && leb (count isT lines) 8_192)) (6 unless isNoTripleTwice lines)
-    ∙ ap (λ (m : ℕ). 3 unless isOneBFirst lines orelse m) (orelse-assoc (4 unless all isInRange lines) (5 unless (leb (count isP lines) 4_096 && leb (count isT lines) 8_192)) (6 unless isNoTripleTwice lines))))
+survey-few : (lines : List (List ℤ)) → leb (surveyFrom fresh lines .ps) phrasesMost && leb (surveyFrom fresh lines .ts) triplesMost ≡ isNotTooLong lines
+unfolding isNotTooLong
+survey-few lines = rw (survey-ps lines, survey-ts lines, and-true (leb (count isT lines) triplesMost))
+
+pub survey-refusal : (form : Form) (lines : List (List ℤ)) → all (isWhole form) lines ≡ true → linesRefusal form lines ≡ surveyRefusal (surveyFrom fresh lines) orelse 6 unless isNoTripleTwice lines
+unfolding linesRefusal surveyRefusal
+survey-refusal form lines w =
+    rw (w, survey-one lines, survey-ranged fresh lines, survey-few lines)
+    (sym (orelse-assoc (3 unless isOneBFirst lines) (4 unless all isInRange lines orelse 5 unless isNotTooLong lines) (6 unless isNoTripleTwice lines)
+    ∙ ap (λ (m : ℕ). 3 unless isOneBFirst lines orelse m) (orelse-assoc (4 unless all isInRange lines) (5 unless isNotTooLong lines) (6 unless isNoTripleTwice lines))))
 
 -- a line that is not whole
-pub broken-refusal : (lines : List (List ℤ)) → all isWhole lines ≡ false → linesRefusal lines ≡ 2
+pub broken-refusal : (form : Form) (lines : List (List ℤ)) → all (isWhole form) lines ≡ false → linesRefusal form lines ≡ 2
 unfolding linesRefusal
-broken-refusal lines w = rw w
+broken-refusal form lines w = rw w
 
 -- the questions, asked one after the other
 module _ (s : Survey) where
-  pub four-three : s .headed && eqb (s .bs) 1 ≡ false → 3 ≡ fourOf s
-  unfolding fourOf
-  four-three h = rw h
+  pub refusal-three : s .headed && eqb (s .bs) 1 ≡ false → 3 ≡ surveyRefusal s
+  unfolding surveyRefusal
+  refusal-three h = rw h
 
-  pub four-four : s .headed && eqb (s .bs) 1 ≡ true → s .ranged ≡ false → 4 ≡ fourOf s
-  unfolding fourOf
-  four-four h k = rw (h, k)
+  pub refusal-four : s .headed && eqb (s .bs) 1 ≡ true → s .ranged ≡ false → 4 ≡ surveyRefusal s
+  unfolding surveyRefusal
+  refusal-four h k = rw (h, k)
 
-  pub four-five : s .headed && eqb (s .bs) 1 ≡ true → s .ranged ≡ true → leb (s .ps) 4_096 && leb (s .ts) 8_192 ≡ false → 5 ≡ fourOf s
-  unfolding fourOf
-  four-five h k l = rw (h, k, l)
+  pub refusal-five : s .headed && eqb (s .bs) 1 ≡ true → s .ranged ≡ true → leb (s .ps) phrasesMost && leb (s .ts) triplesMost ≡ false → 5 ≡ surveyRefusal s
+  unfolding surveyRefusal
+  refusal-five h k l = rw (h, k, l)
 
-  pub four-none : s .headed && eqb (s .bs) 1 ≡ true → s .ranged ≡ true → leb (s .ps) 4_096 && leb (s .ts) 8_192 ≡ true → 0 ≡ fourOf s
-  unfolding fourOf
-  four-none h k l = rw (h, k, l)
+  pub refusal-none : s .headed && eqb (s .bs) 1 ≡ true → s .ranged ≡ true → leb (s .ps) phrasesMost && leb (s .ts) triplesMost ≡ true → 0 ≡ surveyRefusal s
+  unfolding surveyRefusal
+  refusal-none h k l = rw (h, k, l)
 
 -- ---- one line more is one more of each count at most
 

@@ -2,7 +2,7 @@
 use Prim.Native.Nat.{ℕ, zero, suc, _+_, _-_, _≤_, _<_}
 use native.Mathlib.Omega.{arith}
 use mathlib.Core.Path.{_≡_, refl, sym, _∙_, ap}
-use mathlib.Core.Bool.{Bool, true, false, cond, _&&_}
+use mathlib.Core.Bool.{true, false}
 use mathlib.Core.List.{List, [], _∷_}
 use borrow.Author.Tests.{eq-eqb, ne-eqb, leb-true, leb-false, le-leb, lt-leb}
 use lib.Dec.{leb}
@@ -12,38 +12,38 @@ use lib.Seq.{getD-take, getD-drop, take-all, drop-drop, length-take-le}
 use Rattle.laws.specs.Integers.{eqℤ}
 use Rattle.laws.specs.Lists.{all}
 use Rattle.laws.proofs.Tests.{by-test, clash}
-use Rattle.notes.specs.Book.{numberAt, naturalAt, isB, isP, isT, isPhraseLength, sizeOf, isWhole, cutLines, loadedLines}
+use Rattle.notes.specs.Book.{InList, numberAt, isP, sizeOf, isWhole, cutLines, loadedLines}
 use Rattle.notes.proofs.Sizes.{size-from}
 use Rattle.book.specs.Loaded.{sizeAt}
 
 -- ---- the size
 
 -- it is seen from the first three numbers
-size-same : (l m : List ℤ) → numberAt l 0 ≡ numberAt m 0 → numberAt l 1 ≡ numberAt m 1 → numberAt l 2 ≡ numberAt m 2 → sizeOf l ≡ sizeOf m
+size-same : (l m : List ℤ) → numberAt l 0 ≡ numberAt m 0 → numberAt l 1 ≡ numberAt m 1 → numberAt l 2 ≡ numberAt m 2 → sizeOf InList l ≡ sizeOf InList m
 unfolding sizeOf
 size-same l m a b c = rw (a, b, c)
 
-size-take : (n : ℕ) (l : List ℤ) → 3 ≤ n → sizeOf (take n l) ≡ sizeOf l
+size-take : (n : ℕ) (l : List ℤ) → 3 ≤ n → sizeOf InList (take n l) ≡ sizeOf InList l
 size-take n l h =
     size-same (take n l) l (getD-take n l 0 (pos 0) (omega arith)) (getD-take n l 1 (pos 0) (omega arith)) (getD-take n l 2 (pos 0) (omega arith))
 
-whole-is : (l : List ℤ) (s : ℕ) → length l ≡ suc s → sizeOf l ≡ suc s → isWhole l ≡ true
+whole-is : (l : List ℤ) (s : ℕ) → length l ≡ suc s → sizeOf InList l ≡ suc s → isWhole InList l ≡ true
 unfolding isWhole
 whole-is [] s e f = absurd (omega arith)
-whole-is (z ∷ l) s e f = eq-eqb (suc (length l)) (sizeOf (z ∷ l)) (e ∙ sym f)
+whole-is (z ∷ l) s e f = eq-eqb (suc (length l)) (sizeOf InList (z ∷ l)) (e ∙ sym f)
 
-whole-not : (l : List ℤ) → (length l ≡ sizeOf l → ⊥) → isWhole l ≡ false
+whole-not : (l : List ℤ) → (length l ≡ sizeOf InList l → ⊥) → isWhole InList l ≡ false
 unfolding isWhole
 whole-not [] h = refl
-whole-not (z ∷ l) h = ne-eqb (suc (length l)) (sizeOf (z ∷ l)) h
+whole-not (z ∷ l) h = ne-eqb (suc (length l)) (sizeOf InList (z ∷ l)) h
 
 -- ---- the lines do not depend on the fuel, once it is enough
 
-cut-none : (fuel : ℕ) (z : ℤ) (l : List ℤ) → sizeOf (z ∷ l) ≡ 0 → cutLines (suc fuel) (z ∷ l) ≡ (z ∷ l) ∷ []
+cut-none : (fuel : ℕ) (z : ℤ) (l : List ℤ) → sizeOf InList (z ∷ l) ≡ 0 → cutLines (suc fuel) (z ∷ l) ≡ (z ∷ l) ∷ []
 unfolding cutLines
 cut-none fuel z l e = rw (e, cutLines)
 
-cut-some : (fuel : ℕ) (z : ℤ) (l : List ℤ) (s : ℕ) → sizeOf (z ∷ l) ≡ suc s → cutLines (suc fuel) (z ∷ l) ≡ (z ∷ take s l) ∷ cutLines fuel (drop s l)
+cut-some : (fuel : ℕ) (z : ℤ) (l : List ℤ) (s : ℕ) → sizeOf InList (z ∷ l) ≡ suc s → cutLines (suc fuel) (z ∷ l) ≡ (z ∷ take s l) ∷ cutLines fuel (drop s l)
 unfolding cutLines
 cut-some fuel z l s e = rw (e, cutLines)
 
@@ -57,9 +57,9 @@ cut-same zero g [] h k = cut-empty zero ∙ sym (cut-empty g)
 cut-same (suc f) g [] h k = cut-empty (suc f) ∙ sym (cut-empty g)
 cut-same zero g (z ∷ l) h k = absurd (omega arith)
 cut-same (suc f) zero (z ∷ l) h k = absurd (omega arith)
-cut-same (suc f) (suc g) (z ∷ l) h k = by (sizeOf (z ∷ l)) refl (λ s. cut-same f g (drop s l) (rw length-drop (omega arith)) (rw length-drop (omega arith)))
+cut-same (suc f) (suc g) (z ∷ l) h k = by (sizeOf InList (z ∷ l)) refl (λ s. cut-same f g (drop s l) (rw length-drop (omega arith)) (rw length-drop (omega arith)))
   where
-    by : (n : ℕ) → sizeOf (z ∷ l) ≡ n → ((s : ℕ) → cutLines f (drop s l) ≡ cutLines g (drop s l)) → cutLines (suc f) (z ∷ l) ≡ cutLines (suc g) (z ∷ l)
+    by : (n : ℕ) → sizeOf InList (z ∷ l) ≡ n → ((s : ℕ) → cutLines f (drop s l) ≡ cutLines g (drop s l)) → cutLines (suc f) (z ∷ l) ≡ cutLines (suc g) (z ∷ l)
     by zero e rest = cut-none f z l e ∙ sym (cut-none g z l e)
     by (suc s) e rest = cut-some f z l s e ∙ ap (λ (ls : List (List ℤ)). (z ∷ take s l) ∷ ls) (rest s) ∙ sym (cut-some g z l s e)
 
@@ -69,12 +69,12 @@ pub lines-end : loadedLines [] ≡ []
 unfolding loadedLines cutLines
 lines-end = refl
 
-lines-none : (l : List ℤ) → 0 < length l → sizeOf l ≡ 0 → loadedLines l ≡ l ∷ []
+lines-none : (l : List ℤ) → 0 < length l → sizeOf InList l ≡ 0 → loadedLines l ≡ l ∷ []
 unfolding loadedLines
 lines-none [] h e = absurd (omega arith)
 lines-none (z ∷ l) h e = cut-none (length l) z l e
 
-lines-some : (l : List ℤ) (s : ℕ) → 0 < length l → sizeOf l ≡ suc s → loadedLines l ≡ take (suc s) l ∷ loadedLines (drop (suc s) l)
+lines-some : (l : List ℤ) (s : ℕ) → 0 < length l → sizeOf InList l ≡ suc s → loadedLines l ≡ take (suc s) l ∷ loadedLines (drop (suc s) l)
 unfolding loadedLines
 lines-some [] s h e = absurd (omega arith)
 lines-some (z ∷ l) s h e =
@@ -82,44 +82,44 @@ lines-some (z ∷ l) s h e =
     ∙ ap (λ (ls : List (List ℤ)). (z ∷ take s l) ∷ ls) (cut-same (length l) (length (drop s l)) (drop s l) (rw length-drop (omega arith)) (omega arith))
 
 -- a line that is cut off, or cannot be cut
-lines-broken : (l : List ℤ) → 0 < length l → (sizeOf l ≤ length l → sizeOf l ≡ 0) → all isWhole (loadedLines l) ≡ false
-lines-broken l h b = by (sizeOf l) refl
+lines-broken : (l : List ℤ) → 0 < length l → (sizeOf InList l ≤ length l → sizeOf InList l ≡ 0) → all (isWhole InList) (loadedLines l) ≡ false
+lines-broken l h b = by (sizeOf InList l) refl
   where
-    no : isWhole l ≡ false
-    no = whole-not l (λ (e : length l ≡ sizeOf l). let z : sizeOf l ≡ 0 = b (omega arith) in omega arith)
+    no : isWhole InList l ≡ false
+    no = whole-not l (λ (e : length l ≡ sizeOf InList l). let z : sizeOf InList l ≡ 0 = b (omega arith) in omega arith)
 
-    cut : (s : ℕ) → sizeOf l ≡ suc s → length l ≤ suc s
+    cut : (s : ℕ) → sizeOf InList l ≡ suc s → length l ≤ suc s
     cut s e =
-        by-test (leb (sizeOf l) (length l))
-        (λ t. let z : sizeOf l ≡ 0 = b (leb-true (sizeOf l) (length l) t) in omega arith)
-        (λ f. let z = leb-false (sizeOf l) (length l) f in omega arith)
+        by-test (leb (sizeOf InList l) (length l))
+        (λ t. let z : sizeOf InList l ≡ 0 = b (leb-true (sizeOf InList l) (length l) t) in omega arith)
+        (λ f. let z = leb-false (sizeOf InList l) (length l) f in omega arith)
 
-    by : (n : ℕ) → sizeOf l ≡ n → all isWhole (loadedLines l) ≡ false
-    by zero e = ap (all isWhole) (lines-none l h e) ∙ rw no
+    by : (n : ℕ) → sizeOf InList l ≡ n → all (isWhole InList) (loadedLines l) ≡ false
+    by zero e = ap (all (isWhole InList)) (lines-none l h e) ∙ rw no
     by (suc s) e =
-        ap (all isWhole) (lines-some l s h e) ∙ (let t : take (suc s) l ≡ l = take-all (suc s) l (cut s e) in rw (t, no))
+        ap (all (isWhole InList)) (lines-some l s h e) ∙ (let t : take (suc s) l ≡ l = take-all (suc s) l (cut s e) in rw (t, no))
 
 -- ---- the line that stands at a place of the list
 
 pub record LineAt (loaded : List ℤ) (at size : ℕ) : Type 0 where
   pub inside : at + size ≤ length loaded
   pub some : 4 ≤ size
-  pub size-is : sizeOf (drop at loaded) ≡ size
+  pub size-is : sizeOf InList (drop at loaded) ≡ size
   pub lines : loadedLines (drop at loaded) ≡ take size (drop at loaded) ∷ loadedLines (drop (at + size) loaded)
-  pub whole : isWhole (take size (drop at loaded)) ≡ true
+  pub whole : isWhole InList (take size (drop at loaded)) ≡ true
 
 pub line-at : (loaded : List ℤ) (at size : ℕ) → at < length loaded → size ≡ sizeAt loaded at → (size ≡ 0 → ⊥) → LineAt loaded at size
 unfolding sizeAt
 line-at loaded at zero h e n = absurd (n refl)
 line-at loaded at (suc s) h e n =
-    by-test (leb (sizeOf (drop at loaded)) (length loaded - at)) yes′ (λ f. absurd (n (e ∙ rw f)))
+    by-test (leb (sizeOf InList (drop at loaded)) (length loaded - at)) yes′ (λ f. absurd (n (e ∙ rw f)))
   where
-    yes′ : leb (sizeOf (drop at loaded)) (length loaded - at) ≡ true → LineAt loaded at (suc s)
+    yes′ : leb (sizeOf InList (drop at loaded)) (length loaded - at) ≡ true → LineAt loaded at (suc s)
     yes′ t =
-        let size : sizeOf (drop at loaded) ≡ suc s = sym (e ∙ rw t) in
-        let fits = leb-true (sizeOf (drop at loaded)) (length loaded - at) t in
+        let size : sizeOf InList (drop at loaded) ≡ suc s = sym (e ∙ rw t) in
+        let fits = leb-true (sizeOf InList (drop at loaded)) (length loaded - at) t in
         let long = length-drop at loaded in
-        let four = size-from (drop at loaded) (λ z. omega arith) in
+        let four = size-from InList (drop at loaded) (λ z. omega arith) in
         record {
           inside = omega arith;
           some = omega arith;
@@ -128,16 +128,16 @@ line-at loaded at (suc s) h e n =
           whole = whole-is (take (suc s) (drop at loaded)) s (length-take-le (suc s) (drop at loaded) (omega arith)) (size-take (suc s) (drop at loaded) (omega arith) ∙ size);
         }
 
-pub line-broken : (loaded : List ℤ) (at : ℕ) → at < length loaded → 0 ≡ sizeAt loaded at → all isWhole (loadedLines (drop at loaded)) ≡ false
+pub line-broken : (loaded : List ℤ) (at : ℕ) → at < length loaded → 0 ≡ sizeAt loaded at → all (isWhole InList) (loadedLines (drop at loaded)) ≡ false
 unfolding sizeAt
 line-broken loaded at h e =
     let long = length-drop at loaded in
     lines-broken (drop at loaded) (omega arith)
-    (λ (f : sizeOf (drop at loaded) ≤ length (drop at loaded)).
-    let t : leb (sizeOf (drop at loaded)) (length loaded - at) ≡ true = le-leb (sizeOf (drop at loaded)) (length loaded - at) (omega arith) in sym (e ∙ rw t))
+    (λ (f : sizeOf InList (drop at loaded) ≤ length (drop at loaded)).
+    let t : leb (sizeOf InList (drop at loaded)) (length loaded - at) ≡ true = le-leb (sizeOf InList (drop at loaded)) (length loaded - at) (omega arith) in sym (e ∙ rw t))
 
 -- where all lines are whole, one stands at each place of a walk
-pub line-here : (loaded : List ℤ) (at size : ℕ) → all isWhole (loadedLines (drop at loaded)) ≡ true → at < length loaded → size ≡ sizeAt loaded at → LineAt loaded at size
+pub line-here : (loaded : List ℤ) (at size : ℕ) → all (isWhole InList) (loadedLines (drop at loaded)) ≡ true → at < length loaded → size ≡ sizeAt loaded at → LineAt loaded at size
 line-here loaded at zero w h e = clash w (line-broken loaded at h e)
 line-here loaded at (suc size) w h e = line-at loaded at (suc size) h e (omega arith)
 
@@ -154,10 +154,10 @@ kind-same loaded at size l = ap (λ (z : ℤ). eqℤ z (pos 2)) (getD-take size 
 
 -- ---- what code finds at a place
 
-pub size-fits : (loaded : List ℤ) (at size : ℕ) → size ≡ sizeOf (drop at loaded) → size ≤ length loaded - at → size ≡ sizeAt loaded at
+pub size-fits : (loaded : List ℤ) (at size : ℕ) → size ≡ sizeOf InList (drop at loaded) → size ≤ length loaded - at → size ≡ sizeAt loaded at
 unfolding sizeAt
-size-fits loaded at size e h = let t : leb (sizeOf (drop at loaded)) (length loaded - at) ≡ true = le-leb (sizeOf (drop at loaded)) (length loaded - at) (omega arith) in rw t e
+size-fits loaded at size e h = let t : leb (sizeOf InList (drop at loaded)) (length loaded - at) ≡ true = le-leb (sizeOf InList (drop at loaded)) (length loaded - at) (omega arith) in rw t e
 
-pub size-passes : (loaded : List ℤ) (at size : ℕ) → size ≡ sizeOf (drop at loaded) → length loaded - at < size → 0 ≡ sizeAt loaded at
+pub size-passes : (loaded : List ℤ) (at size : ℕ) → size ≡ sizeOf InList (drop at loaded) → length loaded - at < size → 0 ≡ sizeAt loaded at
 unfolding sizeAt
-size-passes loaded at size e h = let f : leb (sizeOf (drop at loaded)) (length loaded - at) ≡ false = lt-leb (sizeOf (drop at loaded)) (length loaded - at) (omega arith) in rw f
+size-passes loaded at size e h = let f : leb (sizeOf InList (drop at loaded)) (length loaded - at) ≡ false = lt-leb (sizeOf InList (drop at loaded)) (length loaded - at) (omega arith) in rw f

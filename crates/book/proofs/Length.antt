@@ -10,14 +10,14 @@ use lib.ListN.{length, take, drop}
 use borrow.Author.Tests.{leb-true, leb-false}
 use Rattle.laws.specs.Lists.{all}
 use Rattle.laws.proofs.Tests.{both, by-test}
-use Rattle.notes.specs.Book.{isWhole, loadedLines, bookRefusal}
+use Rattle.notes.specs.Book.{InList, isWhole, loadedLines, bookRefusal}
 use Rattle.notes.proofs.Ranges.{lines-passed}
 use Rattle.notes.proofs.Sizes.{size-to, passed-few}
 use Rattle.book.specs.Loaded.{sizeAt}
 use Rattle.book.proofs.Cuts.{LineAt, line-here}
 
 -- the numbers from `at` on, by the lines that stand there
-lines-cover : (fuel : ℕ) (loaded : List ℤ) (at : ℕ) → length loaded ≤ at + fuel → all isWhole (loadedLines (drop at loaded)) ≡ true
+lines-cover : (fuel : ℕ) (loaded : List ℤ) (at : ℕ) → length loaded ≤ at + fuel → all (isWhole InList) (loadedLines (drop at loaded)) ≡ true
     → length loaded ≤ at + 20 * length (loadedLines (drop at loaded))
 lines-cover zero loaded at h w = omega arith
 lines-cover (suc fuel) loaded at h w =
@@ -27,13 +27,13 @@ lines-cover (suc fuel) loaded at h w =
     let lt = leb-false (length loaded) at f in
     let size = sizeAt loaded at in
     let l : LineAt loaded at size = line-here loaded at size w (omega arith) refl in
-    let rest : all isWhole (loadedLines (drop (at + size) loaded)) ≡ true = both (isWhole (take size (drop at loaded))) _ (sym (ap (all isWhole) (l .lines)) ∙ w) .1 in
+    let rest : all (isWhole InList) (loadedLines (drop (at + size) loaded)) ≡ true = both (isWhole InList (take size (drop at loaded))) _ (sym (ap (all (isWhole InList)) (l .lines)) ∙ w) .1 in
     let ih = lines-cover fuel loaded (at + size) (let s = l .some in omega arith) rest in
-    omega (arith, ih, ap length (l .lines), l .size-is, size-to (drop at loaded)))
+    omega (arith, ih, ap length (l .lines), l .size-is, size-to InList (drop at loaded)))
 
 -- so each place in it is a small number
 pub loaded-short : (loaded : List ℤ) → bookRefusal loaded ≡ 0 → length loaded < 2 ^ 31
 unfolding bookRefusal
 loaded-short loaded e =
-    let p = lines-passed (loadedLines loaded) e in
-    omega (arith, lines-cover (length loaded) loaded 0 (omega arith) (p .whole), passed-few (loadedLines loaded) p)
+    let p = lines-passed InList (loadedLines loaded) e in
+    omega (arith, lines-cover (length loaded) loaded 0 (omega arith) (p .whole), passed-few InList (loadedLines loaded) p)

@@ -14,7 +14,7 @@ use Rattle.laws.specs.Integers.{Within, natOf}
 use Rattle.laws.specs.Lists.{all, keep, count}
 use Rattle.laws.proofs.Lists.{all-at, part-part, dropLast-length, dropLast-getD, keep-length}
 use Rattle.laws.proofs.Tests.{by-test, both}
-use Rattle.notes.specs.Book.{Entry, numberAt, naturalAt, isP, isWord, isWhole, isInRange, isNotTooLong, wordsAt, entryOf, bookOf, bookOfLines, bookRefusal, loadedLines}
+use Rattle.notes.specs.Book.{InList, Entry, numberAt, naturalAt, isP, isPhraseWord, isWhole, isInRange, isNotTooLong, wordsAt, entryOf, bookOf, bookOfLines, bookRefusal, loadedLines}
 use Rattle.notes.specs.Derivation.{noEntry}
 use Rattle.notes.proofs.Ranges.{lines-passed, PLine, p-line}
 use Rattle.ngrams.specs.Parts.{naturalIn, KeptBelow}
@@ -64,7 +64,7 @@ module _ (loaded : List ℤ) (at size : ℕ) (l : LineAt loaded at size) (p : is
 
   facts : PLine line
   unfolding line
-  facts = p-line (take size (drop at loaded)) p (l .whole) r
+  facts = p-line InList (take size (drop at loaded)) p (l .whole) r
 
   a-is : naturalAt line 1 ≡ naturalAt loaded (at + 1)
   unfolding line
@@ -89,12 +89,12 @@ module _ (loaded : List ℤ) (at size : ℕ) (l : LineAt loaded at size) (p : is
         line-number loaded at size (3 + naturalAt loaded (at + 1) + naturalAt loaded (at + 2)) (omega (arith, size-is)),
       )
 
-  word-at : (j : ℕ) → j < naturalAt loaded (at + 1) + naturalAt loaded (at + 2) → isWord (numberAt loaded (at + (3 + j))) ≡ true
+  word-at : (j : ℕ) → j < naturalAt loaded (at + 1) + naturalAt loaded (at + 2) → isPhraseWord (numberAt loaded (at + (3 + j))) ≡ true
   unfolding line
   word-at j h =
       let n = size-is in let long = line-long loaded at size l in let d = length-drop 3 (take size (drop at loaded)) in let e = dropLast-length (drop 3 (take size (drop at loaded))) in
       let q = dropLast-getD (drop 3 (take size (drop at loaded))) j (pos 0) (omega arith) ∙ getD-drop 3 (take size (drop at loaded)) j (pos 0) ∙ line-number loaded at size (3 + j) (omega arith) in
-      sym (ap isWord q) ∙ all-at isWord (dropLast (drop 3 (take size (drop at loaded)))) (pos 0) (facts .words) j (omega arith)
+      sym (ap isPhraseWord q) ∙ all-at isPhraseWord (dropLast (drop 3 (take size (drop at loaded)))) (pos 0) (facts .words) j (omega arith)
 
   pub entry-at : EntryAt loaded at (entryOf (take size (drop at loaded)))
   unfolding there a b line
@@ -131,15 +131,15 @@ pub record Found (loaded : List ℤ) (index : List ℤ) (count at : ℕ) : Type 
   pub some : count ≤ length (keep isP (loadedLines loaded))
   pub few : length (keep isP (loadedLines loaded)) ≤ entriesMost
   pub tail : drop count (keep isP (loadedLines loaded)) ≡ keep isP (loadedLines (drop at loaded))
-  pub whole : all isWhole (loadedLines (drop at loaded)) ≡ true
+  pub whole : all (isWhole InList) (loadedLines (drop at loaded)) ≡ true
   pub ranged : all isInRange (loadedLines (drop at loaded)) ≡ true
   pub each : (k : ℕ) → k < count → EntryAt loaded (entryPlace index k) (entryOf (getD (keep isP (loadedLines loaded)) k []))
 
 pub found-start : (loaded : List ℤ) (index : List ℤ) → bookRefusal loaded ≡ 0 → Found loaded index 0 0
 unfolding bookRefusal isNotTooLong
 found-start loaded index e =
-    let p = lines-passed (loadedLines loaded) e in
-    let few = leb-true (count isP (loadedLines loaded)) 4_096 (both (leb (count isP (loadedLines loaded)) 4_096) _ (p .short) .0) in
+    let p = lines-passed InList (loadedLines loaded) e in
+    let few = leb-true (count isP (loadedLines loaded)) entriesMost (both (leb (count isP (loadedLines loaded)) entriesMost) _ (p .short) .0) in
     record {
       inside = omega arith;
       some = omega arith;
@@ -160,8 +160,8 @@ module _ {loaded : List ℤ} {index : List ℤ} {count at size : ℕ} (f : Found
   range-rest : all isInRange (loadedLines (drop (at + size) loaded)) ≡ true
   range-rest = both (isInRange (take size (drop at loaded))) _ (sym split ∙ f .ranged) .1
 
-  whole-rest : all isWhole (loadedLines (drop (at + size) loaded)) ≡ true
-  whole-rest = both (isWhole (take size (drop at loaded))) _ (sym (ap (all isWhole) (l .lines)) ∙ f .whole) .1
+  whole-rest : all (isWhole InList) (loadedLines (drop (at + size) loaded)) ≡ true
+  whole-rest = both (isWhole InList (take size (drop at loaded))) _ (sym (ap (all (isWhole InList)) (l .lines)) ∙ f .whole) .1
 
   -- a P line: it is the next entry
   next-p : isP (drop at loaded) ≡ true → drop count (keep isP (loadedLines loaded)) ≡ take size (drop at loaded) ∷ keep isP (loadedLines (drop (at + size) loaded))

@@ -14,7 +14,7 @@ use Rattle.laws.specs.Lists.{all}
 use Rattle.laws.proofs.Lists.{part-size}
 use Rattle.laws.proofs.Order.{yes-≡}
 use Rattle.laws.proofs.Tests.{by-test, both}
-use Rattle.notes.specs.Book.{numberAt, naturalAt, isP, isPhraseLength, sizeOf, isWhole, loadedLines, Part, targetPartFrom, partOf, bookRefusal, targetPart}
+use Rattle.notes.specs.Book.{InList, numberAt, naturalAt, isP, isPhraseLength, sizeOf, isWhole, loadedLines, Part, targetPartFrom, partOf, bookRefusal, targetPart}
 use Rattle.notes.proofs.Ranges.{lines-passed}
 use Rattle.book.specs.declared.target.Part.{Part as Found}
 use Rattle.book.specs.Target.{IsPart}
@@ -53,10 +53,10 @@ part-end k at = refl
 -- the invariant: entry `entry` of the list is the `left`-th P line from `at` on
 pub record Sought (loaded : List ℤ) (entry left at : ℕ) : Type 0 where
   pub inside : at ≤ length loaded
-  pub whole : all isWhole (loadedLines (drop at loaded)) ≡ true
+  pub whole : all (isWhole InList) (loadedLines (drop at loaded)) ≡ true
   pub same : targetPartFrom left at (loadedLines (drop at loaded)) ≡ targetPartFrom entry 0 (loadedLines loaded)
 
-pub sought-start : (loaded : List ℤ) (entry : ℕ) → all isWhole (loadedLines loaded) ≡ true → Sought loaded entry entry 0
+pub sought-start : (loaded : List ℤ) (entry : ℕ) → all (isWhole InList) (loadedLines loaded) ≡ true → Sought loaded entry entry 0
 sought-start loaded entry w = record { inside = omega arith; whole = w; same = refl }
 
 module _ {loaded : List ℤ} {entry left at size : ℕ} (f : Sought loaded entry left at) (l : LineAt loaded at size) where
@@ -70,7 +70,7 @@ module _ {loaded : List ℤ} {entry left at size : ℕ} (f : Sought loaded entry
   sought-next e =
       record {
         inside = l .inside;
-        whole = both (isWhole (take size (drop at loaded))) _ (sym (ap (all isWhole) (l .lines)) ∙ f .whole) .1;
+        whole = both (isWhole InList (take size (drop at loaded))) _ (sym (ap (all (isWhole InList)) (l .lines)) ∙ f .whole) .1;
         same = sym (sym (f .same) ∙ ap (targetPartFrom left at) (l .lines) ∙ part-next left at (take size (drop at loaded)) _ (rw (kind-same loaded at size l) e) ∙ rw (kind-same loaded at size l, line-long loaded at size l));
       }
 
@@ -95,6 +95,6 @@ pub target-refused : (loaded : List ℤ) (entry : ℕ) → eqb (bookRefusal load
 unfolding targetPart
 target-refused loaded entry f = rw f
 
-pub passed-whole : (loaded : List ℤ) → eqb (bookRefusal loaded) 0 ≡ true → all isWhole (loadedLines loaded) ≡ true
+pub passed-whole : (loaded : List ℤ) → eqb (bookRefusal loaded) 0 ≡ true → all (isWhole InList) (loadedLines loaded) ≡ true
 unfolding bookRefusal
-passed-whole loaded t = lines-passed (loadedLines loaded) (eqb-true (bookRefusal loaded) 0 t) .whole
+passed-whole loaded t = lines-passed InList (loadedLines loaded) (eqb-true (bookRefusal loaded) 0 t) .whole

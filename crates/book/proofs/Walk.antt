@@ -7,7 +7,7 @@ use mathlib.Core.List.{List, []}
 use lib.IntN.{ℤ}
 use lib.ListN.{length, take, drop, drop-of-length-le}
 use Rattle.laws.specs.Lists.{all}
-use Rattle.notes.specs.Book.{isWhole, loadedLines}
+use Rattle.notes.specs.Book.{InList, isWhole, loadedLines}
 use Rattle.book.specs.declared.survey.Survey.{Survey}
 use Rattle.book.specs.Survey.{fresh, withLine, surveyFrom, Few}
 use Rattle.book.specs.Grams.{withGram, gramsFrom}
@@ -22,7 +22,7 @@ pub record Walked (loaded index₀ : List ℤ) (acc : Survey) (index : List ℤ)
   pub long : length index ≡ length index₀
   pub surveyed : surveyFrom acc (loadedLines (drop at loaded)) ≡ surveyFrom fresh (loadedLines loaded)
   pub gathered : gramsFrom index (acc .ts) (loadedLines (drop at loaded)) ≡ gramsFrom index₀ 0 (loadedLines loaded)
-  pub asked : all isWhole (loadedLines (drop at loaded)) ≡ all isWhole (loadedLines loaded)
+  pub asked : all (isWhole InList) (loadedLines (drop at loaded)) ≡ all (isWhole InList) (loadedLines loaded)
 
 pub walk-start : (loaded index : List ℤ) → Walked loaded index fresh index 0
 walk-start loaded index = record { inside = omega arith; few = omega arith; long = refl; surveyed = refl; gathered = refl; asked = refl }
@@ -37,12 +37,12 @@ walk-next {loaded} {index₀} {index} {acc} {at} {size} w l =
       long = gram-long index (take size (drop at loaded)) (acc .ts) ∙ w .long;
       surveyed = sym (ap (surveyFrom acc) (l .lines)) ∙ w .surveyed;
       gathered = sym (ap (gramsFrom index (acc .ts)) (l .lines)) ∙ w .gathered;
-      asked = sym (ap (all isWhole) (l .lines) ∙ rw (l .whole)) ∙ w .asked;
+      asked = sym (ap (all (isWhole InList)) (l .lines) ∙ rw (l .whole)) ∙ w .asked;
     }
 
 -- what the walk has at the end of the list
 pub record Done (loaded index₀ : List ℤ) (acc : Survey) (index : List ℤ) : Type 0 where
-  pub whole : all isWhole (loadedLines loaded) ≡ true
+  pub whole : all (isWhole InList) (loadedLines loaded) ≡ true
   pub surveyed : acc ≡ surveyFrom fresh (loadedLines loaded)
   pub gathered : index ≡ gramsFrom index₀ 0 (loadedLines loaded)
 
@@ -51,7 +51,7 @@ unfolding surveyFrom gramsFrom
 walk-end {loaded} {index₀} {index} {acc} {at} w h =
     let none : loadedLines (drop at loaded) ≡ [] = ap loadedLines (drop-of-length-le loaded h) ∙ lines-end in
     record {
-      whole = sym (w .asked) ∙ ap (all isWhole) none;
+      whole = sym (w .asked) ∙ ap (all (isWhole InList)) none;
       surveyed = sym (ap (surveyFrom acc) none) ∙ w .surveyed;
       gathered = sym (ap (gramsFrom index (acc .ts)) none) ∙ w .gathered;
     }

@@ -7,7 +7,7 @@ use lib.Dec.{leb}
 use lib.IntN.{ℤ}
 use lib.ListN.{length, drop}
 use Rattle.laws.specs.Lists.{all}
-use Rattle.notes.specs.Book.{sizeOf, isWhole, loadedLines}
+use Rattle.notes.specs.Book.{InList, sizeOf, isWhole, loadedLines}
 use Rattle.book.specs.declared.loaded.Surveyed.{Surveyed}
 use Rattle.book.specs.declared.loaded.Surveyed.the-variants.{Whole, Broken}
 use Rattle.book.specs.Survey.{fresh, surveyFrom}
@@ -15,10 +15,10 @@ use Rattle.book.specs.Grams.{gramsFrom}
 
 -- how many numbers the line takes that stands at `at`; 0 where it cannot be cut, or is cut off
 unfoldable pub sizeAt : List ℤ → ℕ → ℕ
-sizeAt loaded at = cond (leb (sizeOf (drop at loaded)) (length loaded - at)) (sizeOf (drop at loaded)) 0
+sizeAt loaded at = cond (leb (sizeOf InList (drop at loaded)) (length loaded - at)) (sizeOf InList (drop at loaded)) 0
 
 -- question 2 of all lines; where it passes, the survey of all lines, and their records
 abbrev pub SurveyOf : List ℤ → List ℤ → List ℤ → Surveyed → Type 0
 SurveyOf loaded index₀ index₁ (Whole s) =
-    (all isWhole (loadedLines loaded) ≡ true) × (s ≡ surveyFrom fresh (loadedLines loaded)) × (index₁ ≡ gramsFrom index₀ 0 (loadedLines loaded))
-SurveyOf loaded index₀ index₁ Broken = all isWhole (loadedLines loaded) ≡ false
+    (all (isWhole InList) (loadedLines loaded) ≡ true) × (s ≡ surveyFrom fresh (loadedLines loaded)) × (index₁ ≡ gramsFrom index₀ 0 (loadedLines loaded))
+SurveyOf loaded index₀ index₁ Broken = all (isWhole InList) (loadedLines loaded) ≡ false

@@ -6,7 +6,7 @@ use lib.Dec.{eqb, leb}
 use lib.IntN.{ℤ}
 use Rattle.laws.specs.Bits.{one}
 use Rattle.notes.specs.Questions.{_unless_, _orelse_}
-use Rattle.notes.specs.Book.{isB, isP, isT, isInRange}
+use Rattle.notes.specs.Book.{phrasesMost, triplesMost, isB, isP, isT, isInRange}
 use Rattle.book.specs.declared.survey.Survey.{Survey}
 
 -- no line was seen
@@ -29,12 +29,12 @@ unfoldable pub surveyFrom : Survey → List (List ℤ) → Survey
 surveyFrom acc [] = acc
 surveyFrom acc (line ∷ lines) = surveyFrom (withLine acc line) lines
 
--- questions 3 to 5
-unfoldable pub fourOf : Survey → ℕ
-fourOf s =
+-- the first of questions 3 to 5 that the lines do not pass, or 0
+unfoldable pub surveyRefusal : Survey → ℕ
+surveyRefusal s =
     3 unless (s .headed && eqb (s .bs) 1)
     orelse 4 unless s .ranged
-    orelse 5 unless (leb (s .ps) 4_096 && leb (s .ts) 8_192)
+    orelse 5 unless (leb (s .ps) phrasesMost && leb (s .ts) triplesMost)
 
 -- no count passes n
 pub record Few (s : Survey) (n : ℕ) : Type 0 where

@@ -4,7 +4,10 @@ ghost use mathlib.Core.Path.{_≡_};
 ghost use mathlib.Core.Bool.{_&&_, cond};
 ghost use lib.Dec.{eqb};
 ghost use Rattle.laws.specs.Bits.{one};
-ghost use Rattle.book.specs.Survey.{fresh, withLine, fourOf, Few};
+ghost use Rattle.book.specs.Survey.{fresh, withLine, surveyRefusal, Few};
+
+// How many P lines a book may have (question 5); it may have as many T lines as there are records.
+const PHRASES_MOST: usize = 4096;
 
 // What is known of the lines seen so far: how many they are, whether the first is a B line, how many there are of each kind,
 // and whether every number is in its range.
@@ -73,7 +76,7 @@ pub fn with_line(acc: Survey, line: &[i32]) -> Survey
 
 // The first of questions 3 to 5 that the lines do not pass, or 0.
 pub fn refusal_of(s: Survey) -> usize
-    ensures { λ r. ⌜ r ≡ fourOf s ⌝ }
+    ensures { λ r. ⌜ r ≡ surveyRefusal s ⌝ }
 {
     if !and_also(s.headed, s.bs == 1) {
         return 3;
@@ -81,7 +84,7 @@ pub fn refusal_of(s: Survey) -> usize
     if !s.ranged {
         return 4;
     }
-    if !and_also(s.ps <= 4_096, s.ts <= 8_192) {
+    if !and_also(s.ps <= PHRASES_MOST, s.ts <= ngrams::RECORDS_MOST) {
         return 5;
     }
     0

@@ -6,7 +6,7 @@ ghost use Prim.Native.Nat.{_-_, _≤_};
 ghost use lib.Dec.{eqb};
 ghost use lib.ListN.{length, drop};
 ghost use Rattle.laws.specs.Lists.{all};
-ghost use Rattle.notes.specs.Book.{isP, isWhole, loadedLines, targetPartFrom};
+ghost use Rattle.notes.specs.Book.{InList, isP, isWhole, loadedLines, targetPartFrom};
 ghost use Rattle.book.specs.Target.{IsPart};
 
 // A part of a list: where it starts, and how many numbers it has.
@@ -43,7 +43,7 @@ fn left_behind(book: &[i32], at: usize, left: usize) -> usize
 // Where the target words of an entry stand, by a walk that counts the P lines; the empty part at the list's end where there
 // is no such entry.
 pub fn find_target(book: &[i32], entry: usize) -> Part
-    requires { ⌜ all isWhole (loadedLines (now book)) ≡ true ⌝ }
+    requires { ⌜ all (isWhole InList) (loadedLines (now book)) ≡ true ⌝ }
     ensures { λ r. ⌜ IsPart (now (book .entry)) r (targetPartFrom entry 0 (loadedLines (now (book .entry)))) ⌝ }
 {
     let mut left = entry;

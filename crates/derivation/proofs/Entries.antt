@@ -11,19 +11,19 @@ use lib.Seq.{getD-take, getD-drop, length-take-le}
 use Rattle.laws.specs.Integers.{Within, natOf}
 use Rattle.laws.proofs.Tests.{both}
 use Rattle.laws.proofs.Linear.{signed}
-use Rattle.notes.specs.Book.{Entry, numberAt, naturalAt, isWord, wordsAt}
+use Rattle.notes.specs.Book.{Entry, numberAt, naturalAt, isPhraseWord, wordsAt}
 use Rattle.book.specs.Entries.{EntryAt}
 use Rattle.derivation.specs.Model.{WordsAt, PhraseOf}
 
-word-pos : (z : ℤ) → isWord z ≡ true → z ≡ pos (natOf z)
+word-pos : (z : ℤ) → isPhraseWord z ≡ true → z ≡ pos (natOf z)
 word-pos (pos n) e = refl
 word-pos (negsuc n) e = absurd (false≢true (both (leZ (pos 1) (negsuc n)) (leZ (negsuc n) (pos 65_535)) e .0))
 
-word-most : (z : ℤ) → isWord z ≡ true → natOf z ≤ 65_535
+word-most : (z : ℤ) → isPhraseWord z ≡ true → natOf z ≤ 65_535
 word-most (pos n) e = let h = both (leZ (pos 1) (pos n)) (leZ (pos n) (pos 65_535)) e .1 in omega (arith, signed)
 word-most (negsuc n) e = omega arith
 
-module _ (loaded : List ℤ) (from many : ℕ) (inside : from + many ≤ length loaded) (each : (j : ℕ) → j < many → isWord (numberAt loaded (from + j)) ≡ true) where
+module _ (loaded : List ℤ) (from many : ℕ) (inside : from + many ≤ length loaded) (each : (j : ℕ) → j < many → isPhraseWord (numberAt loaded (from + j)) ≡ true) where
   at : (j : ℕ) → j < many → getD (wordsAt loaded from many) j 0 ≡ natOf (getD loaded (from + j) (pos 0))
   at j h = List·getD-map natOf (take many (drop from loaded)) j (pos 0) ∙ ap natOf (getD-take many (drop from loaded) j (pos 0) h ∙ getD-drop from loaded j (pos 0))
 

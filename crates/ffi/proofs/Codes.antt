@@ -11,7 +11,7 @@ use mir.Val.{toZ, ofZ, SFits}
 use Rattle.laws.proofs.Bounds.{within-pos}
 use Rattle.laws.proofs.Got.{Got, nat, lit, sub, fits, kept}
 use Rattle.laws.proofs.Integers.{back-pos}
-use Rattle.notes.specs.Book.{isBookText, textLines, linesRefusal, loadedOf, readRefusal}
+use Rattle.notes.specs.Book.{InText, isBookText, textLines, linesRefusal, loadedOf, readRefusal}
 use Rattle.notes.specs.Direction.{isDirectionText, directionNumbers, numbersRefusal, readDirectionRefusal, directionOf}
 use Rattle.notes.specs.Reply.{reply, readReply, readBook, readDirection}
 use Rattle.laws.specs.Integers.{natOf}
@@ -49,7 +49,7 @@ counted (Refused refusal) k n places e f l = tt
 pub book-fits : (text : List ℕ) (places : ℕ) → readRefusal text places ≡ 0 → length (loadedOf text) ≤ places
 unfolding readRefusal
 book-fits text places e =
-    leb-true _ _ (test-passes 6 _ (rest-passes (linesRefusal (textLines text)) _ (rest-passes (1 unless isBookText text) _ e)))
+    leb-true _ _ (test-passes 6 _ (rest-passes (linesRefusal InText (textLines text)) _ (rest-passes (1 unless isBookText text) _ e)))
 
 pub direction-fits : (text : List ℕ) (places : ℕ) → readDirectionRefusal text places ≡ 0 → length (directionOf text) ≤ places
 unfolding readDirectionRefusal directionOf

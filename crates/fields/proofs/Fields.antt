@@ -2,17 +2,19 @@
 use mathlib.Core.Path.{_≡_, refl, sym, ap, _∙_, subst}
 use mathlib.Core.Bool.{Bool, true, false, cond, _&&_}
 use mathlib.Core.List.{List, []}
-use Prim.Native.Nat.{ℕ, _+_, _*_, _-_, _≤_, _<_}
+use Prim.Native.Nat.{ℕ, zero, suc, _+_, _*_, _-_, _≤_, _<_}
 use native.Mathlib.Omega.{arith}
 use borrow.Author.Tests.{leb-true, leb-false, ne-eqb}
-use lib.Dec.{eqb, leb}
+use lib.Dec.{leb}
 use lib.IntN.{ℤ, pos}
 use lib.Signed.{leZ}
 use lib.ListN.{length, drop, getD, drop-of-length-le}
 use Rattle.laws.proofs.Tests.{both, by-test, clash, between}
+use Rattle.laws.proofs.Linear.{signed as linear}
 use Rattle.laws.proofs.Lists.{drop-next}
 use Rattle.notes.specs.Numerals.{isDigit}
-use Rattle.fields.specs.Scan.{Scan, Line, Kind, Field, Minus, Digits, Broken, moreDigits, next, run, atLine, signed, letterKind, emit}
+use Rattle.notes.specs.Book.{kindOfByte}
+use Rattle.fields.specs.Scan.{Scan, Line, Kind, Field, Minus, Digits, Broken, moreDigits, next, run, atLine, signed, afterLetter, letterKind, emit}
 use Rattle.fields.specs.Fields.{start, Onward, FieldRead}
 use Rattle.fields.specs.declared.Piece.{Piece}
 use Rattle.fields.proofs.Form.{broken}
@@ -119,30 +121,20 @@ module _ (book : Bool) (t : List ℕ) (i : ℕ) (h : i < length t) (minus : Bool
 
 -- ════ a line's letter
 
--- of the tests of a byte
-abbrev kindBy : Bool → Bool → Bool → ℤ
-kindBy x y z = cond x (pos 1) (cond y (pos 2) (cond z (pos 3) (pos 0)))
-
-abbrev scanBy : Bool → Bool → Bool → Scan
-scanBy x y z = cond x (Kind (pos 1)) (cond y (Kind (pos 2)) (cond z (Kind (pos 3)) Broken))
-
+-- by the byte's kind
 pub letter-next : (b : ℕ) → leZ (letterKind b) (pos 0) ≡ false → next true Line b ≡ Kind (letterKind b)
-letter-next b e = by (eqb b 66) (eqb b 80) (eqb b 84) e
+letter-next b e = by (kindOfByte b) e
   where
-    by : (x y z : Bool) → leZ (kindBy x y z) (pos 0) ≡ false → scanBy x y z ≡ Kind (kindBy x y z)
-    by true y z e = refl
-    by false true z e = refl
-    by false false true e = refl
-    by false false false e = clash refl e
+    by : (k : ℕ) → leZ (pos k) (pos 0) ≡ false → afterLetter k ≡ Kind (pos k)
+    by zero e = clash refl e
+    by (suc k) e = refl
 
 pub no-letter : (b : ℕ) → leZ (letterKind b) (pos 0) ≡ true → next true Line b ≡ Broken
-no-letter b e = by (eqb b 66) (eqb b 80) (eqb b 84) e
+no-letter b e = by (kindOfByte b) e
   where
-    by : (x y z : Bool) → leZ (kindBy x y z) (pos 0) ≡ true → scanBy x y z ≡ Broken
-    by true y z e = clash e refl
-    by false true z e = clash e refl
-    by false false true e = clash e refl
-    by false false false e = refl
+    by : (k : ℕ) → leZ (pos k) (pos 0) ≡ true → afterLetter k ≡ Broken
+    by zero e = refl
+    by (suc k) e = absurd (omega (arith, linear))
 
 -- the letter alone
 module _ (t : List ℕ) (i : ℕ) (h : i < length t) (e : leZ (letterKind (getD t i 0)) (pos 0) ≡ false) where
@@ -150,6 +142,7 @@ module _ (t : List ℕ) (i : ℕ) (h : i < length t) (e : leZ (letterKind (getD 
   not-mark m f q = clash (ap (λ (x : ℕ). leZ (letterKind x) (pos 0)) q ∙ f) e
 
   pub on-letter : Onward true t Line i (Kind (letterKind (getD t i 0))) (i + 1)
+  unfolding kindOfByte
   on-letter = on-byte true t i h Line (Kind (letterKind (getD t i 0))) (letter-next (getD t i 0) e) (not-mark 10 refl) (not-mark 44 refl)
 
 -- with its comma

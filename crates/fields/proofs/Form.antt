@@ -1,19 +1,20 @@
 -- The automaton ends at a line exactly where the text is as question 1 or 8 asks: by induction over the text, for every state,
 -- what is asked of the rest of a text by what has been read.
 use mathlib.Core.Path.{_≡_, refl, sym, ap, _∙_}
-use mathlib.Core.Bool.{Bool, true, false, not, cond, _&&_, _||_, and-true, and-false}
+use mathlib.Core.Bool.{Bool, true, false, not, cond, _&&_, and-true, and-false}
 use mathlib.Core.List.{List, [], _∷_}
-use Prim.Native.Nat.{ℕ, _+_, _*_, _-_}
+use Prim.Native.Nat.{ℕ, zero, suc, _+_, _*_, _-_}
 use native.Mathlib.Omega.{arith}
+use borrow.Author.Tests.{ne-eqb}
 use lib.Dec.{eqb}
 use lib.IntN.{pos}
 use lib.ListN.{length}
 use Rattle.laws.specs.Lists.{all, isEmpty}
-use Rattle.laws.proofs.Tests.{by-test, clash}
+use Rattle.laws.proofs.Tests.{clash}
 use Rattle.notes.specs.Numerals.{isDigit, isPositive, isNumber}
-use Rattle.notes.specs.Book.{kindOfLetter, isTextLine, isBookText}
+use Rattle.notes.specs.Book.{kindOfByte, kindOfLetter, isTextLine, isBookText}
 use Rattle.notes.specs.Direction.{isDirectionText}
-use Rattle.fields.specs.Scan.{Scan, Line, Kind, Field, Minus, Digits, Broken, moreDigits, next, lineStart, run, atLine}
+use Rattle.fields.specs.Scan.{Scan, Line, Kind, Field, Minus, Digits, Broken, afterLetter, moreDigits, next, lineStart, run, atLine}
 use Rattle.fields.proofs.Cut.{Cut, line, cut, Sort, sort, isBlank, areNumbers, isRest, book-is, book-empty, direction-is}
 use Rattle.fields.proofs.Digits.{tail, positive, natural}
 
@@ -37,34 +38,21 @@ rest-line book l (m ∷ ms) e = refl
 rest-bad : (book : Bool) (l : List (List ℕ)) (ls : List (List (List ℕ))) → isBlank l ≡ false → isTextLine l ≡ false → isRest book (l ∷ ls) ≡ false
 rest-bad book l ls e f = rest-line book l ls e ∙ rw (f, and-false)
 
--- a line's letter is one byte, B, P or T
-abbrev pub kindOfByte : Bool → Bool → Bool → ℕ
-kindOfByte x y z = cond x 1 (cond y 2 (cond z 3 0))
-
-pub kind-is : (b : ℕ) (f : List ℕ) → isEmpty f ≡ true → kindOfLetter (b ∷ f) ≡ kindOfByte (eqb b 66) (eqb b 80) (eqb b 84)
+-- a line's letter is one byte that has a kind
+pub kind-is : (b : ℕ) (f : List ℕ) → isEmpty f ≡ true → kindOfLetter (b ∷ f) ≡ kindOfByte b
 unfolding kindOfLetter
-kind-is b [] e = rw (and-true (eqb b 66), and-true (eqb b 80), and-true (eqb b 84))
+kind-is b [] e = refl
 kind-is b (c ∷ f) e = clash e refl
 
-no-kind : (b : ℕ) (f : List ℕ) → isEmpty f ≡ false → kindOfLetter (b ∷ f) ≡ 0
+letter-is : (b : ℕ) (f : List ℕ) → not (eqb (kindOfLetter (b ∷ f)) 0) ≡ not (eqb (kindOfByte b) 0) && isEmpty f
 unfolding kindOfLetter
-no-kind b [] e = clash refl e
-no-kind b (c ∷ f) e = rw (and-false (eqb b 66), and-false (eqb b 80), and-false (eqb b 84))
-
-letter-is : (b : ℕ) (f : List ℕ) → not (eqb (kindOfLetter (b ∷ f)) 0) ≡ (eqb b 66 || (eqb b 80 || eqb b 84)) && isEmpty f
-letter-is b f =
-    by-test (isEmpty f) (λ e. rw (kind-is b f e, e) (by (eqb b 66) (eqb b 80) (eqb b 84))) (λ e. rw (no-kind b f e, e) (sym (and-false (eqb b 66 || (eqb b 80 || eqb b 84)))))
-  where
-    by : (x y z : Bool) → not (eqb (kindOfByte x y z) 0) ≡ (x || (y || z)) && true
-    by true y z = refl
-    by false true z = refl
-    by false false true = refl
-    by false false false = refl
+letter-is b [] = sym (and-true (not (eqb (kindOfByte b) 0)))
+letter-is b (c ∷ f) = sym (and-false (not (eqb (kindOfByte b) 0)))
 
 text-line : (b : ℕ) (f : List ℕ) (fs : List (List ℕ))
-    → isTextLine ((b ∷ f) ∷ fs) ≡ ((eqb b 66 || (eqb b 80 || eqb b 84)) && isEmpty f) && areNumbers fs
+    → isTextLine ((b ∷ f) ∷ fs) ≡ (not (eqb (kindOfByte b) 0) && isEmpty f) && areNumbers fs
 unfolding isTextLine
-text-line b f [] = sym (and-false ((eqb b 66 || (eqb b 80 || eqb b 84)) && isEmpty f))
+text-line b f [] = sym (and-false (not (eqb (kindOfByte b) 0) && isEmpty f))
 text-line b f (g ∷ fs) = ap (λ (x : Bool). x && all isNumber (g ∷ fs)) (letter-is b f)
 
 text-comma : (fs : List (List ℕ)) → isTextLine ([] ∷ fs) ≡ false
@@ -72,9 +60,9 @@ unfolding isTextLine kindOfLetter
 text-comma [] = refl
 text-comma (f ∷ fs) = refl
 
--- the states that follow, by the tests of a byte
-abbrev pub letterBy : Bool → Bool → Bool → Bool → Scan
-letterBy book x y z = cond book (cond x (Kind (pos 1)) (cond y (Kind (pos 2)) (cond z (Kind (pos 3)) Broken))) Broken
+-- the states that follow, by the kind or the tests of a byte
+abbrev pub letterBy : Bool → ℕ → Scan
+letterBy book k = cond book (afterLetter k) Broken
 
 abbrev pub numberBy : ℕ → Bool → Bool → Scan
 numberBy v x y = cond x Minus (cond y (Digits false v) Broken)
@@ -90,6 +78,7 @@ module _ (book : Bool) (bs : List ℕ) (ih : (s : Scan) → atLine (run book s b
   stop s e = rw e (broken book bs)
 
   pub no-line : (m : Bool) → (lineStart m 10 ≡ Broken) × (lineStart m 44 ≡ Broken)
+  unfolding kindOfByte
   no-line true = (refl, refl)
   no-line false = (refl, refl)
 
@@ -113,15 +102,13 @@ module _ (book : Bool) (bs : List ℕ) (ih : (s : Scan) → atLine (run book s b
 
   module _ (b : ℕ) (no10 : eqb b 10 ≡ false) (no44 : eqb b 44 ≡ false) where
     with-line : atLine (run book (lineStart book b) bs) ≡ (book && isTextLine ((b ∷ cut bs .field) ∷ cut bs .fields)) && isRest book (cut bs .lines)
-    with-line = rw (text-line b (cut bs .field) (cut bs .fields)) (by book (eqb b 66) (eqb b 80) (eqb b 84))
+    with-line = rw (text-line b (cut bs .field) (cut bs .fields)) (by book (kindOfByte b))
       where
-        by : (m x y z : Bool) → atLine (run book (letterBy m x y z) bs)
-            ≡ (m && (((x || (y || z)) && isEmpty (cut bs .field)) && areNumbers (cut bs .fields))) && isRest book (cut bs .lines)
-        by false x y z = broken book bs
-        by true true y z = ih (Kind (pos 1))
-        by true false true z = ih (Kind (pos 2))
-        by true false false true = ih (Kind (pos 3))
-        by true false false false = broken book bs
+        by : (m : Bool) (k : ℕ) → atLine (run book (letterBy m k) bs)
+            ≡ (m && ((not (eqb k 0) && isEmpty (cut bs .field)) && areNumbers (cut bs .fields))) && isRest book (cut bs .lines)
+        by false k = broken book bs
+        by true zero = broken book bs
+        by true (suc k) = rw (ne-eqb (suc k) 0 (omega arith)) (ih (Kind (pos (suc k))))
 
     at-other : (s : Scan) → atLine (run book (next book s b) bs) ≡ asked book s (record { field = b ∷ cut bs .field; fields = cut bs .fields; lines = cut bs .lines })
     unfolding isNumber

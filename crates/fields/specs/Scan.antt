@@ -1,18 +1,19 @@
 -- A text read a byte at a time: what may follow what has been read, and the number that a comma or a byte 10 ends.
 -- What a text is and says is stated in notes' specs (Numerals, Book, Direction); proofs/Form and proofs/Numbers have that both agree.
-use Prim.Native.Nat.{ℕ, _+_, _*_, _-_}
+use Prim.Native.Nat.{ℕ, zero, suc, _+_, _*_, _-_}
 use mathlib.Core.Bool.{Bool, true, false, cond, _||_}
 use mathlib.Core.List.{List, [], _∷_}
 use lib.Dec.{eqb}
 use lib.IntN.{ℤ, pos, negℤ}
 use Rattle.notes.specs.Questions.{within}
 use Rattle.notes.specs.Numerals.{newline, comma, minus, zeroDigit, isDigit}
+use Rattle.notes.specs.Book.{kindOfByte}
 
 -- what has been read of the line so far
 pub data Scan : Type 0 where
   -- nothing of the line
   Line : Scan
-  -- a line's letter; B, P, T are 1, 2, 3
+  -- a line's letter, as the number of its kind
   Kind : ℤ → Scan
   -- a comma, so that a number has to follow
   Field : Scan
@@ -25,16 +26,18 @@ pub data Scan : Type 0 where
 
 -- ════ what may follow. `book`: the text is a book's, of lines that begin with a letter; else it is a direction's, of one line
 
--- a letter B, P or T
+-- what a kind says of the letter before it; 0 is no kind
+abbrev pub afterLetter : ℕ → Scan
+afterLetter zero = Broken
+afterLetter (suc k) = Kind (pos (suc k))
+
+-- a letter of the table of kinds
 abbrev pub lineStart : Bool → ℕ → Scan
-lineStart book b =
-    cond book
-    (cond (eqb b 66) (Kind (pos 1)) (cond (eqb b 80) (Kind (pos 2)) (cond (eqb b 84) (Kind (pos 3)) Broken)))
-    Broken
+lineStart book b = cond book (afterLetter (kindOfByte b)) Broken
 
 -- its kind, and 0 of another byte
 abbrev pub letterKind : ℕ → ℤ
-letterKind b = cond (eqb b 66) (pos 1) (cond (eqb b 80) (pos 2) (cond (eqb b 84) (pos 3) (pos 0)))
+letterKind b = pos (kindOfByte b)
 
 abbrev pub afterKind : ℕ → Scan
 afterKind b = cond (eqb b comma) Field Broken

@@ -13,7 +13,7 @@ use Rattle.laws.specs.Lists.{all}
 use Rattle.laws.proofs.Tests.{both}
 use Rattle.laws.proofs.Linear.{signed}
 use Rattle.notes.specs.Questions.{withinℤ}
-use Rattle.notes.specs.Book.{numberAt, naturalAt, isB, isP, isT, isPhraseLength, phraseSize, sizeOf, isWhole, isScore, isWord, isWordOrStart, rangesB, rangesP, rangesT, isInRange}
+use Rattle.notes.specs.Book.{Form, InText, numberAt, naturalAt, isB, isP, isT, isPhraseLength, phraseSize, sizeOf, isWhole, isScore, isPhraseWord, isHistoryWord, isLastWord, rangesB, rangesP, rangesT, isInRange}
 
 -- ---- the kind
 
@@ -40,21 +40,21 @@ module _ (line : List ℤ) where
   pub phrase-both : isPhraseLength (numberAt line 1) ≡ true → isPhraseLength (numberAt line 2) ≡ true → naturalAt line 1 + naturalAt line 2 + 4 ≡ phraseSize line
   phrase-both h k = rw (h, k)
 
-  pub size-b : isB line ≡ true → 4 ≡ sizeOf line
+  pub size-b : (form : Form) → isB line ≡ true → 4 ≡ sizeOf form line
   unfolding sizeOf
-  size-b h = rw h
+  size-b form h = rw h
 
-  pub size-p : isB line ≡ false → isP line ≡ true → phraseSize line ≡ sizeOf line
+  pub size-p : (form : Form) → isB line ≡ false → isP line ≡ true → phraseSize line ≡ sizeOf form line
   unfolding sizeOf
-  size-p h k = rw (h, k)
+  size-p form h k = rw (h, k)
 
-  pub size-t : isB line ≡ false → isP line ≡ false → isT line ≡ true → 5 ≡ sizeOf line
+  pub size-t : (form : Form) → isB line ≡ false → isP line ≡ false → isT line ≡ true → 5 ≡ sizeOf form line
   unfolding sizeOf
-  size-t h k l = rw (h, k, l)
+  size-t form h k l = rw (h, k, l)
 
-  pub size-none : isB line ≡ false → isP line ≡ false → isT line ≡ false → 0 ≡ sizeOf line
+  pub size-none : (form : Form) → isB line ≡ false → isP line ≡ false → isT line ≡ false → 0 ≡ sizeOf form line
   unfolding sizeOf
-  size-none h k l = rw (h, k, l)
+  size-none form h k l = rw (h, k, l)
 
   pub range-b : isB line ≡ true → rangesB line ≡ isInRange line
   unfolding isInRange
@@ -64,16 +64,20 @@ module _ (line : List ℤ) where
   unfolding isInRange
   range-p h k = rw (h, k)
 
-  pub range-t : isB line ≡ false → isP line ≡ false → rangesT line ≡ isInRange line
+  pub range-t : isB line ≡ false → isP line ≡ false → isT line ≡ true → rangesT line ≡ isInRange line
   unfolding isInRange
-  range-t h k = rw (h, k)
+  range-t h k l = rw (h, k, l)
 
-pub whole-empty : (line : List ℤ) → length line ≡ 0 → false ≡ isWhole line
+  pub range-none : isB line ≡ false → isP line ≡ false → isT line ≡ false → false ≡ isInRange line
+  unfolding isInRange
+  range-none h k l = rw (h, k, l)
+
+pub whole-empty : (line : List ℤ) → length line ≡ 0 → false ≡ isWhole InText line
 unfolding isWhole
 whole-empty [] h = refl
 whole-empty (z ∷ line) h = absurd (omega arith)
 
-pub whole-some : (line : List ℤ) (n : ℕ) → (length line ≡ 0 → ⊥) → n ≡ sizeOf line → eqb (length line) n ≡ isWhole line
+pub whole-some : (line : List ℤ) (n : ℕ) → (length line ≡ 0 → ⊥) → n ≡ sizeOf InText line → eqb (length line) n ≡ isWhole InText line
 unfolding isWhole
 whole-some [] n h e = absurd (h refl)
 whole-some (z ∷ line) n h e = rw e
@@ -90,20 +94,20 @@ module _ (line : List ℤ) where
   pub b-score : withinℤ (pos 0) (pos 32) (numberAt line 1) ≡ true → withinℤ (negsuc 9_999) (pos 10_000) (numberAt line 2) ≡ true → isScore (numberAt line 3) ≡ rangesB line
   b-score h k = rw (h, k)
 
-  pub p-words : all isWord (dropLast (drop 3 line)) ≡ false → false ≡ rangesP line
+  pub p-words : all isPhraseWord (dropLast (drop 3 line)) ≡ false → false ≡ rangesP line
   p-words h = rw h
 
-  pub p-score : all isWord (dropLast (drop 3 line)) ≡ true → isScore (numberAt line (length line - 1)) ≡ rangesP line
+  pub p-score : all isPhraseWord (dropLast (drop 3 line)) ≡ true → isScore (numberAt line (length line - 1)) ≡ rangesP line
   p-score h = rw h
 
-  pub t-first : isWordOrStart (numberAt line 1) ≡ false → false ≡ rangesT line
+  pub t-first : isHistoryWord (numberAt line 1) ≡ false → false ≡ rangesT line
   t-first h = rw h
 
-  pub t-second : isWordOrStart (numberAt line 1) ≡ true → isWordOrStart (numberAt line 2) ≡ false → false ≡ rangesT line
+  pub t-second : isHistoryWord (numberAt line 1) ≡ true → isHistoryWord (numberAt line 2) ≡ false → false ≡ rangesT line
   t-second h k = rw (h, k)
 
-  pub t-word : isWordOrStart (numberAt line 1) ≡ true → isWordOrStart (numberAt line 2) ≡ true → isWord (numberAt line 3) ≡ false → false ≡ rangesT line
+  pub t-word : isHistoryWord (numberAt line 1) ≡ true → isHistoryWord (numberAt line 2) ≡ true → isLastWord (numberAt line 3) ≡ false → false ≡ rangesT line
   t-word h k l = rw (h, k, l)
 
-  pub t-score : isWordOrStart (numberAt line 1) ≡ true → isWordOrStart (numberAt line 2) ≡ true → isWord (numberAt line 3) ≡ true → isScore (numberAt line 4) ≡ rangesT line
+  pub t-score : isHistoryWord (numberAt line 1) ≡ true → isHistoryWord (numberAt line 2) ≡ true → isLastWord (numberAt line 3) ≡ true → isScore (numberAt line 4) ≡ rangesT line
   t-score h k l = rw (h, k, l)

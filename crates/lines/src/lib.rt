@@ -8,7 +8,7 @@ ghost use lib.ListN.{length, drop};
 ghost use Rattle.laws.specs.Lists.{all};
 ghost use Rattle.notes.specs.Questions.{withinℤ};
 ghost use Rattle.laws.specs.Integers.{natOf};
-ghost use Rattle.notes.specs.Book.{numberAt, naturalAt, isKind, isPhraseLength, phraseSize, sizeOf, isWhole, isScore, isWord, isWordOrStart, rangesB, rangesP, rangesT, isInRange};
+ghost use Rattle.notes.specs.Book.{Form, InText, numberAt, naturalAt, isKind, isPhraseLength, phraseSize, sizeOf, isWhole, isScore, isWord, isPhraseWord, isHistoryWord, isLastWord, rangesB, rangesP, rangesT, isInRange};
 
 // The number, or 0 where it is negative.
 pub fn natural(x: i32) -> usize
@@ -31,7 +31,7 @@ pub fn natural_at(line: &[i32], k: usize) -> usize
     natural(number_at(line, k))
 }
 
-// The line is of the kind k: 1 for B, 2 for P, 3 for T.
+// The line is of the kind k, row k of the table: 1 for B, 2 for P, 3 for T.
 pub fn is_kind(line: &[i32], k: usize) -> bool
     ensures { λ r. ⌜ r ≡ isKind k (now (line .entry)) ⌝ }
 {
@@ -59,9 +59,9 @@ fn size_of_phrase(line: &[i32]) -> usize
     natural_at(line, 1) + natural_at(line, 2) + 4
 }
 
-// How many numbers the line that stands at the front takes; 0 where that cannot be told (question 2).
+// How many numbers the line that stands at the front takes, in a text and in a loaded list alike; 0 where that cannot be told (question 2).
 pub fn size_of(line: &[i32]) -> usize
-    ensures { λ r. ⌜ r ≡ sizeOf (now (line .entry)) ⌝ }
+    ensures { λ r. ⌜ ((form : Form) → r ≡ sizeOf form (now (line .entry))) ⌝ }
 {
     if is_kind(line, 1) {
         return 4;
@@ -75,9 +75,9 @@ pub fn size_of(line: &[i32]) -> usize
     0
 }
 
-// Question 2, of a line.
+// Question 2, of a text's line.
 pub fn is_whole(line: &[i32]) -> bool
-    ensures { λ r. ⌜ r ≡ isWhole (now (line .entry)) ⌝ }
+    ensures { λ r. ⌜ r ≡ isWhole InText (now (line .entry)) ⌝ }
 {
     if line.len() == 0 {
         return false;
@@ -92,18 +92,32 @@ pub fn is_score(x: i32) -> bool
     -1_000_000 <= x && x <= 1_000_000
 }
 
-// A word of a phrase, or the word y of a triple.
-pub fn is_word(x: i32) -> bool
+// A word, 1 to 65,535.
+fn is_word(x: i32) -> bool
     ensures { λ r. ⌜ r ≡ isWord x ⌝ }
 {
     1 <= x && x <= 65_535
 }
 
+// A source or target word of a phrase.
+fn is_phrase_word(x: i32) -> bool
+    ensures { λ r. ⌜ r ≡ isPhraseWord x ⌝ }
+{
+    is_word(x)
+}
+
 // The word v or w of a triple.
-fn is_word_or_start(x: i32) -> bool
-    ensures { λ r. ⌜ r ≡ isWordOrStart x ⌝ }
+fn is_history_word(x: i32) -> bool
+    ensures { λ r. ⌜ r ≡ isHistoryWord x ⌝ }
 {
     0 <= x && x <= 65_535
+}
+
+// The word y of a triple, its last.
+fn is_last_word(x: i32) -> bool
+    ensures { λ r. ⌜ r ≡ isLastWord x ⌝ }
+{
+    is_word(x)
 }
 
 // The reordering limit d of a B line.
@@ -135,11 +149,11 @@ fn ranges_b(line: &[i32]) -> bool
 
 // The words of a P line: what stands between its first three numbers and its last.
 fn are_words(line: &[i32]) -> bool
-    ensures { λ r. ⌜ r ≡ all isWord (dropLast (drop 3 (now (line .entry)))) ⌝ }
+    ensures { λ r. ⌜ r ≡ all isPhraseWord (dropLast (drop 3 (now (line .entry)))) ⌝ }
 {
     let mut i = 3;
     while i + 1 < line.len() {
-        if !is_word(line[i]) {
+        if !is_phrase_word(line[i]) {
             return false;
         }
         i += 1;
@@ -171,19 +185,19 @@ fn ranges_p(line: &[i32]) -> bool
 fn ranges_t(line: &[i32]) -> bool
     ensures { λ r. ⌜ r ≡ rangesT (now (line .entry)) ⌝ }
 {
-    if !is_word_or_start(number_at(line, 1)) {
+    if !is_history_word(number_at(line, 1)) {
         return false;
     }
-    if !is_word_or_start(number_at(line, 2)) {
+    if !is_history_word(number_at(line, 2)) {
         return false;
     }
-    if !is_word(number_at(line, 3)) {
+    if !is_last_word(number_at(line, 3)) {
         return false;
     }
     is_score(number_at(line, 4))
 }
 
-// Question 4, of a line.
+// Question 4, of a line; no number of an unknown kind, which question 2 refuses, is in range.
 pub fn is_in_range(line: &[i32]) -> bool
     ensures { λ r. ⌜ r ≡ isInRange (now (line .entry)) ⌝ }
 {
@@ -193,5 +207,8 @@ pub fn is_in_range(line: &[i32]) -> bool
     if is_kind(line, 2) {
         return ranges_p(line);
     }
-    ranges_t(line)
+    if is_kind(line, 3) {
+        return ranges_t(line);
+    }
+    false
 }

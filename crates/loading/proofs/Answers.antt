@@ -1,4 +1,4 @@
--- Questions 3 to 6 by the survey: what an answer of `fourOf` and of the comparison of the triples says of all lines.
+-- Questions 3 to 6 by the survey: what an answer of `surveyRefusal` and of the comparison of the triples says of all lines.
 use Prim.Native.Nat.{ℕ, _+_, _≤_}
 use native.Mathlib.Omega.{arith}
 use mathlib.Core.Path.{_≡_, refl, sym, _∙_, ap}
@@ -12,7 +12,7 @@ use Rattle.laws.specs.Lists.{all, keep, count, noneTwice}
 use Rattle.laws.proofs.Lists.{keep-length}
 use Rattle.laws.proofs.Tests.{both}
 use Rattle.notes.specs.Questions.{_unless_, _orelse_, number}
-use Rattle.notes.specs.Book.{isP, isT, isWhole, isOneBFirst, isInRange, isNoTripleTwice, linesRefusal, entryOf, tripleOf, bookOfLines, loadedLines}
+use Rattle.notes.specs.Book.{Form, InList, phrasesMost, triplesMost, isP, isT, isWhole, isOneBFirst, isInRange, isNoTripleTwice, linesRefusal, entryOf, tripleOf, bookOfLines, loadedLines}
 use Rattle.notes.specs.declared.Refusal.{Refusal}
 use Rattle.notes.proofs.Chains.{rest-passes, test-passes}
 use Rattle.ngrams.specs.Parts.{recordsMost, recordsFrom, recordsEnd, KeptFrom}
@@ -22,7 +22,7 @@ use Rattle.ngrams.proofs.Lines.{Copied, triples-are, answers-6}
 use Rattle.book.specs.declared.survey.Survey.{Survey}
 use Rattle.book.specs.declared.loaded.Surveyed.{Surveyed}
 use Rattle.book.specs.declared.loaded.Surveyed.the-variants.{Whole, Broken}
-use Rattle.book.specs.Survey.{fourOf}
+use Rattle.book.specs.Survey.{surveyRefusal}
 use Rattle.book.specs.Loaded.{SurveyOf}
 use Rattle.book.proofs.Counts.{survey-ps, survey-ts, survey-refusal}
 use Rattle.book.proofs.Triples.{grams-long, grams-hold}
@@ -32,9 +32,9 @@ use Rattle.notes.proofs.Numbered.{number-from, refused-first}
 -- ════ questions 3 to 5
 
 -- it is one of three refusals, or none
-pub four-none : (s : Survey) (k : ℕ) → k ≡ fourOf s → (k ≡ 3 → ⊥) → (k ≡ 4 → ⊥) → (k ≡ 5 → ⊥) → 0 ≡ fourOf s
-unfolding fourOf
-four-none s k e three four five = by (s .headed && eqb (s .bs) 1) (s .ranged) (leb (s .ps) 4_096 && leb (s .ts) 8_192) e
+pub judged-none : (s : Survey) (k : ℕ) → k ≡ surveyRefusal s → (k ≡ 3 → ⊥) → (k ≡ 4 → ⊥) → (k ≡ 5 → ⊥) → 0 ≡ surveyRefusal s
+unfolding surveyRefusal
+judged-none s k e three four five = by (s .headed && eqb (s .bs) 1) (s .ranged) (leb (s .ps) phrasesMost && leb (s .ts) triplesMost) e
   where
     by : (a b c : Bool) → k ≡ (3 unless a orelse 4 unless b orelse 5 unless c) → 0 ≡ (3 unless a orelse 4 unless b orelse 5 unless c)
     by true true true q = refl
@@ -43,13 +43,13 @@ four-none s k e three four five = by (s .headed && eqb (s .bs) 1) (s .ranged) (l
     by false b c q = absurd (three q)
 
 -- no more T lines than there is room for
-pub four-few : (s : Survey) → fourOf s ≡ 0 → s .ts ≤ recordsMost
-unfolding fourOf
-four-few s e =
+pub judged-few : (s : Survey) → surveyRefusal s ≡ 0 → s .ts ≤ recordsMost
+unfolding surveyRefusal
+judged-few s e =
     let after3 = rest-passes (3 unless (s .headed && eqb (s .bs) 1)) _ e in
     let after4 = rest-passes (4 unless s .ranged) _ after3 in
-    let short = test-passes 4 (leb (s .ps) 4_096 && leb (s .ts) 8_192) after4 in
-    leb-true (s .ts) 8_192 (both (leb (s .ps) 4_096) (leb (s .ts) 8_192) short .1)
+    let short = test-passes 4 (leb (s .ps) phrasesMost && leb (s .ts) triplesMost) after4 in
+    leb-true (s .ts) triplesMost (both (leb (s .ps) phrasesMost) (leb (s .ts) triplesMost) short .1)
 
 -- a refusal by a later question, or none, has passed question 4
 later : (a b c : Bool) (m j : ℕ) → (2 unless a orelse 3 unless b orelse 4 unless c orelse m) ≡ j → (j ≡ 2 → ⊥) → (j ≡ 3 → ⊥) → (j ≡ 4 → ⊥) → c ≡ true
@@ -60,9 +60,9 @@ later false b c m j e two three four = absurd (two (sym e))
 
 -- ════ question 6
 
-module _ {lines : List (List ℤ)} {index₀ index : List ℤ} {s : Survey} (w : WholeAs lines index₀ index s) (room : recordsEnd ≤ length index) (four : fourOf s ≡ 0) where
-  refusal-6 : linesRefusal lines ≡ 6 unless isNoTripleTwice lines
-  refusal-6 = survey-refusal lines (w .whole) ∙ ap (λ (k : ℕ). k orelse 6 unless isNoTripleTwice lines) (ap fourOf (sym (w .surveyed)) ∙ four)
+module _ {form : Form} {lines : List (List ℤ)} {index₀ index : List ℤ} {s : Survey} (w : WholeAs form lines index₀ index s) (room : recordsEnd ≤ length index) (four : surveyRefusal s ≡ 0) where
+  refusal-6 : linesRefusal form lines ≡ 6 unless isNoTripleTwice lines
+  refusal-6 = survey-refusal form lines (w .whole) ∙ ap (λ (k : ℕ). k orelse 6 unless isNoTripleTwice lines) (ap surveyRefusal (sym (w .surveyed)) ∙ four)
 
   counted : s .ts ≡ count isT lines
   counted = ap (λ (x : Survey). x .ts) (w .surveyed) ∙ survey-ts lines
@@ -71,9 +71,9 @@ module _ {lines : List (List ℤ)} {index₀ index : List ℤ} {s : Survey} (w :
   unfolding linesRefusal
   ranged = by (isNoTripleTwice lines) refusal-6
     where
-      by : (b : Bool) → linesRefusal lines ≡ 6 unless b → all isInRange lines ≡ true
-      by true e = later (all isWhole lines) (isOneBFirst lines) (all isInRange lines) _ 0 e (omega arith) (omega arith) (omega arith)
-      by false e = later (all isWhole lines) (isOneBFirst lines) (all isInRange lines) _ 6 e (omega arith) (omega arith) (omega arith)
+      by : (b : Bool) → linesRefusal form lines ≡ 6 unless b → all isInRange lines ≡ true
+      by true e = later (all (isWhole form) lines) (isOneBFirst lines) (all isInRange lines) _ 0 e (omega arith) (omega arith) (omega arith)
+      by false e = later (all (isWhole form) lines) (isOneBFirst lines) (all isInRange lines) _ 6 e (omega arith) (omega arith) (omega arith)
 
   -- the records are the numbers of the T lines
   copied : Copied index (keep isT lines)
@@ -82,7 +82,7 @@ module _ {lines : List (List ℤ)} {index₀ index : List ℤ} {s : Survey} (w :
         let n : length (keep isT lines) ≡ count isT lines = keep-length isT lines in
         let c : f + 1 ≡ 1 + f = omega arith in
         let z = counted in
-        let few = four-few s four in
+        let few = judged-few s four in
         rw (w .gathered, c) (grams-hold index₀ lines (omega arith) (omega (arith, ap length (w .gathered), grams-long index₀ 0 lines)) k f (omega arith) l);
   }
 
@@ -90,13 +90,13 @@ module _ {lines : List (List ℤ)} {index₀ index : List ℤ} {s : Survey} (w :
   held = ap (triplesIn index) counted ∙ triples-are index lines copied
 
   answer-6 : noneTwice sameKey (keysIn index (s .ts)) ≡ isNoTripleTwice lines
-  answer-6 = ap (λ (n : ℕ). noneTwice sameKey (keysIn index n)) counted ∙ answers-6 index lines copied (w .whole) ranged
+  answer-6 = ap (λ (n : ℕ). noneTwice sameKey (keysIn index n)) counted ∙ answers-6 form index lines copied (w .whole) ranged
 
-  pub repeated-so : false ≡ noneTwice sameKey (keysIn index (s .ts)) → linesRefusal lines ≡ 6
+  pub repeated-so : false ≡ noneTwice sameKey (keysIn index (s .ts)) → linesRefusal form lines ≡ 6
   repeated-so e = refusal-6 ∙ ap (λ (b : Bool). 6 unless b) (sym (e ∙ answer-6))
 
   -- `all_different` left the records as they were
-  pub different-so : {after : List ℤ} → KeptFrom recordsFrom index after → true ≡ noneTwice sameKey (keysIn index (s .ts)) → Indexed after (s .ts) → Known (linesRefusal lines) (bookOfLines lines) after s
+  pub different-so : {after : List ℤ} → KeptFrom recordsFrom index after → true ≡ noneTwice sameKey (keysIn index (s .ts)) → Indexed after (s .ts) → Known (linesRefusal form lines) (bookOfLines lines) after s
   unfolding bookOfLines
   different-so same e x = record {
     passes = refusal-6 ∙ ap (λ (b : Bool). 6 unless b) (sym (e ∙ answer-6));
@@ -108,16 +108,16 @@ module _ {lines : List (List ℤ)} {index₀ index : List ℤ} {s : Survey} (w :
   }
 
 -- a refusal by questions 3 to 5 is the lines' refusal
-pub four-so : {lines : List (List ℤ)} {index₀ index : List ℤ} {s : Survey} → WholeAs lines index₀ index s → (refusal : Refusal) → number refusal ≡ fourOf s
-    → linesRefusal lines ≡ number refusal
-four-so {lines} w refusal e =
-    survey-refusal lines (w .whole)
-    ∙ ap (λ (j : ℕ). j orelse 6 unless isNoTripleTwice lines) (ap fourOf (sym (w .surveyed)) ∙ sym e)
+pub judged-so : {form : Form} {lines : List (List ℤ)} {index₀ index : List ℤ} {s : Survey} → WholeAs form lines index₀ index s → (refusal : Refusal) → number refusal ≡ surveyRefusal s
+    → linesRefusal form lines ≡ number refusal
+judged-so {form} {lines} w refusal e =
+    survey-refusal form lines (w .whole)
+    ∙ ap (λ (j : ℕ). j orelse 6 unless isNoTripleTwice lines) (ap surveyRefusal (sym (w .surveyed)) ∙ sym e)
     ∙ refused-first (number refusal) _ (number-from refusal)
 
 -- ════ a loaded list
 
 -- its survey is that of its lines
-pub survey-loaded : (loaded index₀ index₁ : List ℤ) (r : Surveyed) → SurveyOf loaded index₀ index₁ r → SurveyIs (loadedLines loaded) index₀ index₁ r
+pub survey-loaded : (loaded index₀ index₁ : List ℤ) (r : Surveyed) → SurveyOf loaded index₀ index₁ r → SurveyIs InList (loadedLines loaded) index₀ index₁ r
 survey-loaded loaded index₀ index₁ (Whole s) e = record { whole = e .0; surveyed = e .1; gathered = e .2 }
 survey-loaded loaded index₀ index₁ Broken e = e

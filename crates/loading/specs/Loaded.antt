@@ -7,7 +7,7 @@ use lib.IntN.{ℤ}
 use lib.ListN.{length}
 use Rattle.laws.specs.Lists.{all, noneTwice}
 use Rattle.notes.specs.Questions.{number}
-use Rattle.notes.specs.Book.{isWhole, Book}
+use Rattle.notes.specs.Book.{Form, isWhole, Book}
 use Rattle.notes.specs.declared.Checked.{Checked}
 use Rattle.notes.specs.declared.Checked.the-variants.{Passed, Refused as CheckRefused}
 use Rattle.ngrams.specs.Grams.{keysIn, triplesIn, sameKey, Indexed}
@@ -27,15 +27,15 @@ refusalOf (CheckRefused refusal) = number refusal
 -- ════ the survey of lines
 
 -- the lines are whole, s is what is known of them, and their records were put into the list that was `index₀`
-pub record WholeAs (lines : List (List ℤ)) (index₀ index₁ : List ℤ) (s : Survey) : Type 0 where
-  pub whole : all isWhole lines ≡ true
+pub record WholeAs (form : Form) (lines : List (List ℤ)) (index₀ index₁ : List ℤ) (s : Survey) : Type 0 where
+  pub whole : all (isWhole form) lines ≡ true
   pub surveyed : s ≡ surveyFrom fresh lines
   pub gathered : index₁ ≡ gramsFrom index₀ 0 lines
 
 -- question 2 of all lines; where it passes, their survey
-abbrev pub SurveyIs : List (List ℤ) → List ℤ → List ℤ → Surveyed → Type 0
-SurveyIs lines index₀ index₁ (Whole s) = WholeAs lines index₀ index₁ s
-SurveyIs lines index₀ index₁ Broken = all isWhole lines ≡ false
+abbrev pub SurveyIs : Form → List (List ℤ) → List ℤ → List ℤ → Surveyed → Type 0
+SurveyIs form lines index₀ index₁ (Whole s) = WholeAs form lines index₀ index₁ s
+SurveyIs form lines index₀ index₁ Broken = all (isWhole form) lines ≡ false
 
 -- ════ what questions 2 to 6 answer
 

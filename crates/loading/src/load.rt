@@ -10,10 +10,10 @@ ghost use mathlib.Core.Path.{_≡_};
 ghost use mathlib.Core.List.{List};
 ghost use lib.IntN.{ℤ};
 ghost use lib.ListN.{length};
-ghost use Rattle.notes.specs.Book.{linesRefusal, bookOfLines, bookRefusal, bookOf};
+ghost use Rattle.notes.specs.Book.{Form, linesRefusal, bookOfLines, bookRefusal, bookOf};
 ghost use Prim.Native.Nat.{_≤_};
 ghost use Rattle.ngrams.specs.Parts.{recordsEnd};
-ghost use Rattle.book.specs.Survey.{fourOf};
+ghost use Rattle.book.specs.Survey.{surveyRefusal};
 ghost use Rattle.loading.specs.Loaded.{refusalOf, WholeAs, SurveyIs, Answered};
 
 // What the lines of a book answer to questions 2 to 6: what is known of them all, or the refusal.
@@ -24,7 +24,7 @@ pub enum Loaded {
 
 // Questions 3 to 5, of all lines.
 fn judge(s: Survey) -> Checked
-    ensures { λ r. ⌜ refusalOf r ≡ fourOf s ⌝ }
+    ensures { λ r. ⌜ refusalOf r ≡ surveyRefusal s ⌝ }
 {
     let k = survey::refusal_of(s);
     if k == 3 {
@@ -42,8 +42,8 @@ fn judge(s: Survey) -> Checked
 // Question 6, of lines that passed 2 to 5. Where it passes, the records are indexed.
 fn compare(s: Survey, index: &mut [i32]) -> Loaded
     requires { ⌜ recordsEnd ≤ length (now index) ⌝ }
-    requires { ⌜ fourOf s ≡ 0 ⌝ }
-    ensures { λ r. ⌜ ((lines : List (List ℤ)) (index₀ : List ℤ) → WholeAs lines index₀ (now (index .entry)) s → Answered (linesRefusal lines) (bookOfLines lines) (now (index .exit)) r) ⌝ }
+    requires { ⌜ surveyRefusal s ≡ 0 ⌝ }
+    ensures { λ r. ⌜ ((form : Form) (lines : List (List ℤ)) (index₀ : List ℤ) → WholeAs form lines index₀ (now (index .entry)) s → Answered (linesRefusal form lines) (bookOfLines lines) (now (index .exit)) r) ⌝ }
 {
     if ngrams::all_different(index, s.ts) {
         return Loaded::Book(s);
@@ -54,7 +54,7 @@ fn compare(s: Survey, index: &mut [i32]) -> Loaded
 // Questions 3 to 6, of lines that passed 2.
 pub fn settle_whole(s: Survey, index: &mut [i32]) -> Loaded
     requires { ⌜ recordsEnd ≤ length (now index) ⌝ }
-    ensures { λ r. ⌜ ((lines : List (List ℤ)) (index₀ : List ℤ) → WholeAs lines index₀ (now (index .entry)) s → Answered (linesRefusal lines) (bookOfLines lines) (now (index .exit)) r) ⌝ }
+    ensures { λ r. ⌜ ((form : Form) (lines : List (List ℤ)) (index₀ : List ℤ) → WholeAs form lines index₀ (now (index .entry)) s → Answered (linesRefusal form lines) (bookOfLines lines) (now (index .exit)) r) ⌝ }
 {
     match judge(s) {
         Checked::Passed => compare(s, index),
@@ -65,7 +65,7 @@ pub fn settle_whole(s: Survey, index: &mut [i32]) -> Loaded
 // Questions 2 to 6, of lines that were surveyed, their records in `index`. Where they pass, the records are indexed.
 pub fn settle(surveyed: Surveyed, index: &mut [i32]) -> Loaded
     requires { ⌜ recordsEnd ≤ length (now index) ⌝ }
-    ensures { λ r. ⌜ ((lines : List (List ℤ)) (index₀ : List ℤ) → SurveyIs lines index₀ (now (index .entry)) surveyed → Answered (linesRefusal lines) (bookOfLines lines) (now (index .exit)) r) ⌝ }
+    ensures { λ r. ⌜ ((form : Form) (lines : List (List ℤ)) (index₀ : List ℤ) → SurveyIs form lines index₀ (now (index .entry)) surveyed → Answered (linesRefusal form lines) (bookOfLines lines) (now (index .exit)) r) ⌝ }
 {
     match surveyed {
         Surveyed::Whole(s) => settle_whole(s, index),

@@ -16,7 +16,7 @@ use Rattle.laws.proofs.Tests.{both, same-test}
 use Rattle.laws.proofs.Linear.{signed, num}
 use Rattle.laws.proofs.Lists.{all-mem, keep-mem, keep-length}
 use Rattle.laws.proofs.Order.{yes-≡}
-use Rattle.notes.specs.Book.{numberAt, isT, isWhole, isInRange, isWord, isWordOrStart, isScore, rangesT, sizeOf, tripleKey, isNoTripleTwice, tripleOf, Book}
+use Rattle.notes.specs.Book.{Form, numberAt, isT, isWhole, isInRange, isHistoryWord, isLastWord, isScore, rangesT, sizeOf, tripleKey, isNoTripleTwice, tripleOf, Book}
 use Rattle.notes.specs.Derivation.{listedScore, tripleScore}
 use Rattle.ngrams.specs.declared.Key.{Key}
 use Rattle.ngrams.specs.Parts.{naturalIn}
@@ -74,14 +74,14 @@ pub record TLine (line : List ℤ) : Type 0 where
   pub w-from : leZ (pos 0) (numberAt line 2) ≡ true
   pub y-from : leZ (pos 1) (numberAt line 3) ≡ true
 
-pub t-line : (line : List ℤ) → isT line ≡ true → isWhole line ≡ true → isInRange line ≡ true → TLine line
+pub t-line : (form : Form) (line : List ℤ) → isT line ≡ true → isWhole form line ≡ true → isInRange line ≡ true → TLine line
 unfolding isWhole sizeOf isInRange
-t-line line t w e =
+t-line form line t w e =
     let k : numberAt line 0 ≡ pos 3 = yes-≡ (numberAt line 0) (pos 3) t in
     let r : rangesT line ≡ true = rw k at e in
-    let h = both (isWordOrStart (numberAt line 1) && isWordOrStart (numberAt line 2) && isWord (numberAt line 3)) (isScore (numberAt line 4)) r in
-    let g = both (isWordOrStart (numberAt line 1) && isWordOrStart (numberAt line 2)) (isWord (numberAt line 3)) (h .0) in
-    let f = both (isWordOrStart (numberAt line 1)) (isWordOrStart (numberAt line 2)) (g .0) in
+    let h = both (isHistoryWord (numberAt line 1) && isHistoryWord (numberAt line 2) && isLastWord (numberAt line 3)) (isScore (numberAt line 4)) r in
+    let g = both (isHistoryWord (numberAt line 1) && isHistoryWord (numberAt line 2)) (isLastWord (numberAt line 3)) (h .0) in
+    let f = both (isHistoryWord (numberAt line 1)) (isHistoryWord (numberAt line 2)) (g .0) in
     record {
       long = eqb-true _ _ (rw k at (both (not (isEmpty line)) _ w .1));
       v-from = both (leZ (pos 0) (numberAt line 1)) _ (f .0) .0;
@@ -138,15 +138,15 @@ module _ {A B C : Type 0} (eq : B → B → Bool) (eq′ : C → C → Bool) (f 
       rw (any-agree x xs (λ y m. h x y (List·Memᴰ·head refl) (List·Memᴰ·tail m)), noneTwice-agree xs (λ y z m k. h y z (List·Memᴰ·tail m) (List·Memᴰ·tail k)))
 
 -- of lines that passed 2 and 4, it asks whether words stand twice
-pub question-6 : (lines : List (List ℤ)) → all isWhole lines ≡ true → all isInRange lines ≡ true → noneTwice sameKey (map lineKey (keep isT lines)) ≡ isNoTripleTwice lines
+pub question-6 : (form : Form) (lines : List (List ℤ)) → all (isWhole form) lines ≡ true → all isInRange lines ≡ true → noneTwice sameKey (map lineKey (keep isT lines)) ≡ isNoTripleTwice lines
 unfolding isNoTripleTwice
-question-6 lines whole ranged =
+question-6 form lines whole ranged =
     noneTwice-agree sameKey (eqList eqℤ) lineKey tripleKey (keep isT lines) (λ a b m k. keys-agree a b (line-of a m) (line-of b k))
   where
     line-of : (line : List ℤ) → List·Memᴰ line (keep isT lines) → TLine line
-    line-of line m = let k = keep-mem isT lines m in t-line line (k .1) (all-mem isWhole lines whole line (k .0)) (all-mem isInRange lines ranged line (k .0))
+    line-of line m = let k = keep-mem isT lines m in t-line form line (k .1) (all-mem (isWhole form) lines whole line (k .0)) (all-mem isInRange lines ranged line (k .0))
 
 -- so the answer of `all_different` is that of question 6
-pub answers-6 : (index : List ℤ) (lines : List (List ℤ)) → Copied index (keep isT lines) → all isWhole lines ≡ true → all isInRange lines ≡ true
+pub answers-6 : (form : Form) (index : List ℤ) (lines : List (List ℤ)) → Copied index (keep isT lines) → all (isWhole form) lines ≡ true → all isInRange lines ≡ true
     → noneTwice sameKey (keysIn index (count isT lines)) ≡ isNoTripleTwice lines
-answers-6 index lines c whole ranged = ap (noneTwice sameKey) (keys-are index lines c) ∙ question-6 lines whole ranged
+answers-6 form index lines c whole ranged = ap (noneTwice sameKey) (keys-are index lines c) ∙ question-6 form lines whole ranged

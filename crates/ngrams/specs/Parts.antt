@@ -5,14 +5,17 @@ use mathlib.Core.List.{List}
 use lib.IntN.{ℤ, pos}
 use lib.ListN.{length, getD}
 use Rattle.laws.specs.Integers.{natOf}
+use Rattle.notes.specs.Book.{triplesMost}
 
--- how many buckets there are, how many records at most, and how many numbers a record has: v, w, y and the score
+-- how many buckets there are
 abbrev pub bucketCount : ℕ
 bucketCount = 8_192
 
+-- a record for each T line that question 5 allows
 abbrev pub recordsMost : ℕ
-recordsMost = 8_192
+recordsMost = triplesMost
 
+-- how many numbers a record has: v, w, y and the score
 abbrev pub recordSize : ℕ
 recordSize = 4
 

@@ -2,7 +2,7 @@
 use Rattle.laws.specs.Bits.{bitsOf}
 use Rattle.search_theory.specs.Search.{highest, first, extend, add, addAll, setOf, beam, extensions, level, upto, run, closed, best}
 use Rattle.notes.specs.Numerals.{split, isEnded, linesOf, isPositive, isNatural, isNumber, valueOf}
-use Rattle.notes.specs.Book.{kindOfLetter, isTextLine, isBookText, textLines, sizeOf, isWhole, cutLines, loadedLines, isOneBFirst, isInRange, isNotTooLong, isNoTripleTwice, linesRefusal, bookRefusal, loadedOf, readRefusal, entryOf, tripleOf, bookOfLines, bookOf, targetPartFrom, targetPart, partOf}
+use Rattle.notes.specs.Book.{kindOfByte, kindOfLetter, isTextLine, isBookText, textLines, sizeOf, isWhole, cutLines, loadedLines, isOneBFirst, isInRange, isNotTooLong, isNoTripleTwice, linesRefusal, bookRefusal, loadedOf, readRefusal, entryOf, tripleOf, bookOfLines, bookOf, targetPartFrom, targetPart, partOf}
 use Rattle.notes.specs.Direction.{isDirectionText, directionNumbers, numbersRefusal, directionRefusal, readDirectionRefusal, directionOf, wordCount}
 use Rattle.notes.specs.Derivation.{tripleScore, wordsScore, isEntry, entryAt, wordsFromTo, fits, covers, jump, jumps, timesCovered, isValid, targetWords, scoreOf}
 use Rattle.notes.specs.State.{start, wordsCovered, isEqual, isFree, cover, mayExtend, lastTwo, nextKey, gain, isBetter, keyOf}
@@ -15,7 +15,7 @@ unfolding
     bitsOf
     highest first extend add addAll setOf beam extensions level upto run closed best
     split isEnded linesOf isPositive isNatural isNumber valueOf
-    kindOfLetter isTextLine isBookText textLines sizeOf isWhole cutLines loadedLines isOneBFirst isInRange isNotTooLong isNoTripleTwice linesRefusal bookRefusal loadedOf readRefusal entryOf tripleOf bookOfLines bookOf targetPartFrom targetPart partOf
+    kindOfByte kindOfLetter isTextLine isBookText textLines sizeOf isWhole cutLines loadedLines isOneBFirst isInRange isNotTooLong isNoTripleTwice linesRefusal bookRefusal loadedOf readRefusal entryOf tripleOf bookOfLines bookOf targetPartFrom targetPart partOf
     isDirectionText directionNumbers numbersRefusal directionRefusal readDirectionRefusal directionOf wordCount
     tripleScore wordsScore isEntry entryAt wordsFromTo fits covers jump jumps timesCovered isValid targetWords scoreOf
     start wordsCovered isEqual isFree cover mayExtend lastTwo nextKey gain isBetter keyOf

@@ -16,7 +16,7 @@ use Rattle.laws.specs.Lists.{all, isEmpty}
 use Rattle.laws.proofs.Tests.{by-test, both, is-false, clash}
 use Rattle.laws.proofs.Bounds.{within-mono}
 use Rattle.notes.specs.Questions.{_unless_, _orelse_, within}
-use Rattle.notes.specs.Book.{Book, bookOf, bookRefusal, linesRefusal, loadedLines, isWhole, isOneBFirst, isInRange, isNotTooLong, isNoTripleTwice, isWord}
+use Rattle.notes.specs.Book.{Form, InList, Book, bookOf, bookRefusal, linesRefusal, loadedLines, isWhole, isOneBFirst, isInRange, isNotTooLong, isNoTripleTwice, isWord}
 use Rattle.notes.specs.Direction.{wordCount, directionRefusal, numbersRefusal}
 use Rattle.notes.specs.Derivation.{IsDerivation, fits, jump, isValid, targetWords, scoreOf}
 use Rattle.notes.specs.State.{Key, Hyp, start, isFree, nextKey, scoreBound}
@@ -31,10 +31,10 @@ use Rattle.notes.proofs.Widths.{wide-entered, wide-answer, wide-last}
 
 -- ════ the questions that come before
 
-lines-to : (lines : List (List ℤ)) → linesRefusal lines ≤ 6
+lines-to : (form : Form) (lines : List (List ℤ)) → linesRefusal form lines ≤ 6
 unfolding linesRefusal
-lines-to lines =
-    chain-to _ _ 6 (test-to 2 (all isWhole lines) 6 (omega arith))
+lines-to form lines =
+    chain-to _ _ 6 (test-to 2 (all (isWhole form) lines) 6 (omega arith))
     (chain-to _ _ 6 (test-to 3 (isOneBFirst lines) 6 (omega arith))
     (chain-to _ _ 6 (test-to 4 (all isInRange lines) 6 (omega arith))
     (chain-to _ _ 6 (test-to 5 (isNotTooLong lines) 6 (omega arith)) (test-to 6 (isNoTripleTwice lines) 6 (omega arith)))))
@@ -65,7 +65,7 @@ steps-from book direction k (s ∷ ss) =
 before-to : (loaded : List ℤ) (direction : List ℕ) (width : ℤ) (lent : Lent) → beforeSearch loaded direction width lent ≤ 12
 unfolding beforeSearch bookRefusal directionRefusal
 before-to loaded direction width lent =
-    let book-to : linesRefusal (loadedLines loaded) ≤ 12 = (let h = lines-to (loadedLines loaded) in omega arith) in
+    let book-to : linesRefusal InList (loadedLines loaded) ≤ 12 = (let h = lines-to InList (loadedLines loaded) in omega arith) in
     let direction-to-12 : numbersRefusal (map pos direction) ≤ 12 = (let h = numbers-at-most (map pos direction) in omega arith) in
     chain-to _ _ 12 book-to
     (chain-to _ _ 12 direction-to-12
@@ -136,7 +136,7 @@ module _ (loaded : List ℤ) (direction : List ℕ) where
   unfolding scoreProposal proposalRefusal bookRefusal directionRefusal
   refused-invalid steps k h e =
       let p : proposalRefusal loaded direction steps ≡ k = refused-is (proposalRefusal loaded direction steps) k (scoreOf book steps) e in
-      let b : bookRefusal loaded ≤ 6 = lines-to (loadedLines loaded) in
+      let b : bookRefusal loaded ≤ 6 = lines-to InList (loadedLines loaded) in
       let d : directionRefusal direction ≤ 10 = numbers-at-most (map pos direction) in
       let s = skip (directionRefusal direction) _ k (λ z. omega arith) (skip (bookRefusal loaded) _ k (λ z. omega arith) p) in
       is-false (λ v. let z = proposal-valid book direction steps .1 v in omega arith)

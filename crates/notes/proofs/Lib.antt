@@ -7,6 +7,7 @@ pub mod Scores
 pub mod Steps
 pub mod Cover
 pub mod Ranges
+pub mod Table
 pub mod Sizes
 pub mod Loaded
 pub mod Bounds

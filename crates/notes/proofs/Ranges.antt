@@ -16,28 +16,28 @@ use Rattle.laws.proofs.Linear.{signed, num}
 use Rattle.laws.proofs.Order.{yes-≡}
 use Rattle.laws.proofs.Lists.{all-mem, keep-mem, getD-mem}
 use Rattle.notes.specs.Questions.{_unless_, withinℤ}
-use Rattle.notes.specs.Book.{numberAt, naturalAt, isB, isP, isT, isPhraseLength, sizeOf, isWhole, isOneBFirst, isScore, isWord, isWordOrStart, rangesB, rangesP, rangesT, isInRange, isNotTooLong, isNoTripleTwice, linesRefusal, bookRefusal, loadedLines, wordsAt, Entry, Triple, Book, entryOf, tripleOf, bookOfLines, bookOf}
+use Rattle.notes.specs.Book.{Form, InList, numberAt, naturalAt, isB, isP, isT, isPhraseLength, sizeOf, isWhole, isOneBFirst, isScore, isPhraseWord, isHistoryWord, isLastWord, rangesB, rangesP, rangesT, isInRange, isNotTooLong, isNoTripleTwice, linesRefusal, bookRefusal, loadedLines, wordsAt, Entry, Triple, Book, entryOf, tripleOf, bookOfLines, bookOf}
 use Rattle.notes.specs.Derivation.{noEntry, entryAt}
 use Rattle.notes.proofs.Chains.{first-passes, rest-passes, test-passes}
 
 -- ════ the tests that passed
 
-pub record Passed (lines : List (List ℤ)) : Type 0 where
-  pub whole : all isWhole lines ≡ true
+pub record Passed (form : Form) (lines : List (List ℤ)) : Type 0 where
+  pub whole : all (isWhole form) lines ≡ true
   pub one-b : isOneBFirst lines ≡ true
   pub ranged : all isInRange lines ≡ true
   pub short : isNotTooLong lines ≡ true
   pub different : isNoTripleTwice lines ≡ true
 
-pub lines-passed : (lines : List (List ℤ)) → linesRefusal lines ≡ 0 → Passed lines
+pub lines-passed : (form : Form) (lines : List (List ℤ)) → linesRefusal form lines ≡ 0 → Passed form lines
 unfolding linesRefusal
-lines-passed lines e =
-    let after2 = rest-passes (2 unless all isWhole lines) _ e in
+lines-passed form lines e =
+    let after2 = rest-passes (2 unless all (isWhole form) lines) _ e in
     let after3 = rest-passes (3 unless isOneBFirst lines) _ after2 in
     let after4 = rest-passes (4 unless all isInRange lines) _ after3 in
     let after5 = rest-passes (5 unless isNotTooLong lines) _ after4 in
     record {
-      whole = test-passes 1 _ (first-passes (2 unless all isWhole lines) _ e);
+      whole = test-passes 1 _ (first-passes (2 unless all (isWhole form) lines) _ e);
       one-b = test-passes 2 _ (first-passes (3 unless isOneBFirst lines) _ after2);
       ranged = test-passes 3 _ (first-passes (4 unless all isInRange lines) _ after3);
       short = test-passes 4 _ (first-passes (5 unless isNotTooLong lines) _ after4);
@@ -89,13 +89,13 @@ pub record PLine (line : List ℤ) : Type 0 where
   pub b-from : 1 ≤ naturalAt line 2
   pub b-to : naturalAt line 2 ≤ 8
   pub long : length line ≡ naturalAt line 1 + naturalAt line 2 + 4
-  pub words : all isWord (dropLast (drop 3 line)) ≡ true
+  pub words : all isPhraseWord (dropLast (drop 3 line)) ≡ true
   pub score-within : Within 1_000_000 (numberAt line (3 + naturalAt line 1 + naturalAt line 2))
 
-size-p : (line : List ℤ) → isP line ≡ true → isWhole line ≡ true
+size-p : (form : Form) (line : List ℤ) → isP line ≡ true → isWhole form line ≡ true
     → (isPhraseLength (numberAt line 1) && isPhraseLength (numberAt line 2) ≡ true) × (length line ≡ naturalAt line 1 + naturalAt line 2 + 4)
 unfolding isWhole sizeOf
-size-p line p w =
+size-p form line p w =
     let k : numberAt line 0 ≡ pos 2 = kind-is line 2 p in
     let h = both (not (isEmpty line)) _ w in
     let n : length line ≡ cond (isPhraseLength (numberAt line 1) && isPhraseLength (numberAt line 2)) (naturalAt line 1 + naturalAt line 2 + 4) 0 = eqb-true _ _ (rw k at (h .1)) in
@@ -107,16 +107,16 @@ size-p line p w =
     some [] e z = true≢false (sym e)
     some (x ∷ l) e z = omega arith
 
-pub p-line : (line : List ℤ) → isP line ≡ true → isWhole line ≡ true → isInRange line ≡ true → PLine line
+pub p-line : (form : Form) (line : List ℤ) → isP line ≡ true → isWhole form line ≡ true → isInRange line ≡ true → PLine line
 unfolding isInRange
-p-line line p w e =
+p-line form line p w e =
     let k : numberAt line 0 ≡ pos 2 = kind-is line 2 p in
     let r : rangesP line ≡ true = rw k at e in
-    let s = size-p line p w in
+    let s = size-p form line p w in
     let ab = both (isPhraseLength (numberAt line 1)) (isPhraseLength (numberAt line 2)) (s .0) in
     let a = both (leZ (pos 1) (numberAt line 1)) (leZ (numberAt line 1) (pos 8)) (ab .0) in
     let b = both (leZ (pos 1) (numberAt line 2)) (leZ (numberAt line 2) (pos 8)) (ab .1) in
-    let h = both (all isWord (dropLast (drop 3 line))) (isScore (numberAt line (length line - 1))) r in
+    let h = both (all isPhraseWord (dropLast (drop 3 line))) (isScore (numberAt line (length line - 1))) r in
     let at : length line - 1 ≡ 3 + naturalAt line 1 + naturalAt line 2 = (let z : length line ≡ naturalAt line 1 + naturalAt line 2 + 4 = s .1 in omega arith) in
     record {
       a-from = nat-low (numberAt line 1) 1 (a .0);
@@ -133,7 +133,7 @@ unfolding isInRange
 t-line line t e =
     let k : numberAt line 0 ≡ pos 3 = kind-is line 3 t in
     let r : rangesT line ≡ true = rw k at e in
-    score-within (numberAt line 4) (both (isWordOrStart (numberAt line 1) && isWordOrStart (numberAt line 2) && isWord (numberAt line 3)) (isScore (numberAt line 4)) r .1)
+    score-within (numberAt line 4) (both (isHistoryWord (numberAt line 1) && isHistoryWord (numberAt line 2) && isLastWord (numberAt line 3)) (isScore (numberAt line 4)) r .1)
 
 -- as many words as asked for, where the line has them
 words-long : (line : List ℤ) (from many : ℕ) → from + many ≤ length line → length (wordsAt line from many) ≡ many
@@ -160,10 +160,10 @@ entry-ind Q lines none each k =
     subst Q (o .2) (each (o .0) (q .0) (q .1)))
     (λ f. subst Q (sym (List·getD-eq-default (map entryOf (keep isP lines)) noEntry (ltb-false k _ f))) none)
 
-pub book-ranged : (lines : List (List ℤ)) → Passed lines → Ranged (bookOfLines lines)
+pub book-ranged : (form : Form) (lines : List (List ℤ)) → Passed form lines → Ranged (bookOfLines lines)
 unfolding bookOfLines entryAt entryOf tripleOf isOneBFirst
-book-ranged [] p = absurd (false≢true (p .one-b))
-book-ranged (first ∷ lines) p =
+book-ranged form [] p = absurd (false≢true (p .one-b))
+book-ranged form (first ∷ lines) p =
     let b = b-line first (both (isB first) _ (p .one-b) .0) (both (isInRange first) _ (p .ranged) .0) in
     record {
       limit-to = b .limit-to;
@@ -181,9 +181,9 @@ book-ranged (first ∷ lines) p =
     }
   where
     line-of : (line : List ℤ) → List·Memᴰ line (first ∷ lines) → isP line ≡ true → PLine line
-    line-of line m t = p-line line t (all-mem isWhole (first ∷ lines) (p .whole) line m) (all-mem isInRange (first ∷ lines) (p .ranged) line m)
+    line-of line m t = p-line form line t (all-mem (isWhole form) (first ∷ lines) (p .whole) line m) (all-mem isInRange (first ∷ lines) (p .ranged) line m)
 
 -- a loaded book that 2 to 6 pass is in its ranges
 pub loaded-ranged : (loaded : List ℤ) → bookRefusal loaded ≡ 0 → Ranged (bookOf loaded)
 unfolding bookRefusal bookOf
-loaded-ranged loaded e = book-ranged (loadedLines loaded) (lines-passed (loadedLines loaded) e)
+loaded-ranged loaded e = book-ranged InList (loadedLines loaded) (lines-passed InList (loadedLines loaded) e)

@@ -7,7 +7,7 @@ use lib.Dec.{eqb}
 use lib.IntN.{ℤ, pos, negsuc}
 use lib.ListN.{replicate, take, length}
 use Rattle.laws.specs.Lists.{all}
-use Rattle.notes.specs.Book.{linesRefusal, bookRefusal, readRefusal, targetPart, partOf}
+use Rattle.notes.specs.Book.{InText, linesRefusal, bookRefusal, readRefusal, targetPart, partOf}
 use Rattle.notes.specs.Direction.{directionRefusal, readDirectionRefusal}
 use Rattle.notes.specs.Reply.{proposalRefusal, beforeSearch}
 use Rattle.notes.specs.declared.Step.{Step}
@@ -136,9 +136,9 @@ loaded-agree = refl
 -- 5: one line too many of either kind; equal T lines are not asked about before
 unfoldable pub many : List Row
 many =
-    (linesRefusal (bLine ∷ replicate 4096 pLine), 0)
-    ∷ (linesRefusal (bLine ∷ replicate 4097 pLine), 5)
-    ∷ (linesRefusal (bLine ∷ replicate 8193 tLine), 5)
+    (linesRefusal InText (bLine ∷ replicate 4096 pLine), 0)
+    ∷ (linesRefusal InText (bLine ∷ replicate 4097 pLine), 5)
+    ∷ (linesRefusal InText (bLine ∷ replicate 8193 tLine), 5)
     ∷ []
 
 pub many-agree : all agrees many ≡ true

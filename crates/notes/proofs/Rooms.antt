@@ -10,7 +10,7 @@ use lib.ListN.{length}
 use lib.Signed.{leZ}
 use Rattle.laws.proofs.Tests.{both-of}
 use Rattle.notes.specs.Questions.{_unless_, _orelse_}
-use Rattle.notes.specs.Book.{bookRefusal, bookOf, isBookText, textLines, linesRefusal, loadedOf, readRefusal}
+use Rattle.notes.specs.Book.{InText, bookRefusal, bookOf, isBookText, textLines, linesRefusal, loadedOf, readRefusal}
 use Rattle.notes.specs.Direction.{wordCount, isDirectionText, directionNumbers, numbersRefusal, directionRefusal, readDirectionRefusal}
 use Rattle.notes.specs.Search.{entered, answer}
 use Rattle.notes.specs.Reply.{reply, Lent, beforeSearch, afterSearch, decodeRefusal, answerScore, decode}
@@ -30,7 +30,7 @@ pub read-room : (text : List ℕ) (p q : ℕ) → (isBookText text ≡ true → 
 unfolding readRefusal
 read-room text p q h g =
     same-rest (1 unless isBookText text) _ _
-    (λ e. same-rest (linesRefusal (textLines text)) _ _
+    (λ e. same-rest (linesRefusal InText (textLines text)) _ _
     (λ _. let t = test-passes 0 (isBookText text) e in both-pass (length (loadedOf text)) p q (h t) (g t)))
 
 -- reading a direction into p or q places

@@ -11,14 +11,151 @@ use Rattle.laws.specs.Lists.{all, any, keep, count, isEmpty, eqList, noneTwice,
 use Rattle.notes.specs.Questions.{_unless_, _orelse_, withinℤ}
 use Rattle.notes.specs.Numerals.{linesOf, isEnded, isNumber, valueOf}
 
+-- ════ the kinds of lines: one table, with a row for each kind
+
+-- number k of a line, its kind first; 0 behind its end
+abbrev pub numberAt : List ℤ → ℕ → ℤ
+numberAt line k = getD line k (pos 0)
+
+-- a number that is no negative one: a word, a limit, a count
+abbrev pub naturalAt : List ℤ → ℕ → ℕ
+naturalAt line k = natOf (numberAt line k)
+
+-- "a and b each 1 to 8"
+abbrev pub isPhraseLength : ℤ → Bool
+isPhraseLength z = withinℤ (pos 1) (pos 8) z
+
+-- a + b + 4; 0 where a or b is out of range or missing
+abbrev pub phraseSize : List ℤ → ℕ
+phraseSize line =
+    cond (isPhraseLength (numberAt line 1) && isPhraseLength (numberAt line 2)) (naturalAt line 1 + naturalAt line 2 + 4) 0
+
+-- "The scores u, g and s are −1,000,000 to 1,000,000"
+abbrev pub isScore : ℤ → Bool
+isScore z = withinℤ (negℤ (pos 1_000_000)) (pos 1_000_000) z
+
+-- "Words are 1 to 65,535."
+abbrev pub isWord : ℤ → Bool
+isWord z = withinℤ (pos 1) (pos 65_535) z
+
+-- a source or target word of a phrase
+abbrev pub isPhraseWord : ℤ → Bool
+isPhraseWord z = isWord z
+
+-- the word v or w of a triple: "Word 0 is the start symbol and may stand only as v or w."
+abbrev pub isHistoryWord : ℤ → Bool
+isHistoryWord z = withinℤ (pos 0) (pos 65_535) z
+
+-- the word y of a triple, its last
+abbrev pub isLastWord : ℤ → Bool
+isLastWord z = isWord z
+
+-- "reordering limit d, 0 to 32; penalty eta, −10,000 to 10,000; score u for an unseen triple"
+abbrev pub rangesB : List ℤ → Bool
+rangesB line =
+    withinℤ (pos 0) (pos 32) (numberAt line 1)
+    && withinℤ (negℤ (pos 10_000)) (pos 10_000) (numberAt line 2)
+    && isScore (numberAt line 3)
+
+-- after the kind, a and b: words, and the score as the last
+abbrev pub rangesP : List ℤ → Bool
+rangesP line = all isPhraseWord (dropLast (drop 3 line)) && isScore (numberAt line (length line - 1))
+
+-- "the score s of target word y after the words v and w"
+abbrev pub rangesT : List ℤ → Bool
+rangesT line =
+    isHistoryWord (numberAt line 1)
+    && isHistoryWord (numberAt line 2)
+    && isLastWord (numberAt line 3)
+    && isScore (numberAt line 4)
+
+-- how many P lines a book may have: "At most 4,096 P and 8,192 T lines."
+abbrev pub phrasesMost : ℕ
+phrasesMost = 4_096
+
+-- how many T lines
+abbrev pub triplesMost : ℕ
+triplesMost = 8_192
+
+-- where a line stands: in a text, or in a loaded list
+pub data Form : Type 0 where
+  InText : Form
+  InList : Form
+
+-- a row of the table
+pub record Kind : Type 0 where
+  -- the byte of its letter
+  pub letter : ℕ
+  -- how many numbers its line takes in a text, and in a loaded list, its kind the first; 0 where the numbers that tell it are out
+  -- of range or missing. Both are the same: "A loaded book is the same numbers in the same order"
+  pub size : Form → List ℤ → ℕ
+  -- whether the numbers of a line that has that size are in their ranges
+  pub ranges : List ℤ → Bool
+  -- how many such lines a book may have
+  pub most : ℕ
+
+-- B,d,eta,u; "Is the first line a B line, and the only one?"
+abbrev pub kindB : Kind
+kindB = record { letter = 66; size = λ form line. 4; ranges = rangesB; most = 1 }
+
+-- P,a,b,x1..xa,y1..yb,g
+abbrev pub kindP : Kind
+kindP = record { letter = 80; size = λ form. phraseSize; ranges = rangesP; most = phrasesMost }
+
+-- T,v,w,y,s
+abbrev pub kindT : Kind
+kindT = record { letter = 84; size = λ form line. 5; ranges = rangesT; most = triplesMost }
+
+-- "the letters B, P, T as 1, 2, 3": the k-th row is kind k. "So the three kinds take 4, a + b + 4 and 5 numbers."
+abbrev pub kinds : List Kind
+kinds = kindB ∷ kindP ∷ kindT ∷ []
+
+-- the line is of kind k, the k-th row's
+abbrev pub isKind : ℕ → List ℤ → Bool
+isKind k line = eqℤ (numberAt line 0) (pos k)
+
+-- a B line
+abbrev pub isB : List ℤ → Bool
+isB line = isKind 1 line
+
+-- a P line
+abbrev pub isP : List ℤ → Bool
+isP line = isKind 2 line
+
+-- a T line
+abbrev pub isT : List ℤ → Bool
+isT line = isKind 3 line
+
+-- what the row of the line's kind says, among the rows from kind k on; `none` where it is of none of them
+abbrev pub saidFrom : {A : Type 0} → A → (Kind → A) → List ℤ → ℕ → List Kind → A
+saidFrom none says line k [] = none
+saidFrom none says line k (row ∷ rows) = cond (isKind k line) (says row) (saidFrom none says line (suc k) rows)
+
+-- the same, of the whole table
+abbrev pub said : {A : Type 0} → A → (Kind → A) → List ℤ → A
+said none says line = saidFrom none says line 1 kinds
+
+-- the kind whose letter the byte is, among the rows from kind k on; 0 where it is the letter of none of them
+abbrev pub kindFrom : ℕ → ℕ → List Kind → ℕ
+kindFrom b k [] = 0
+kindFrom b k (row ∷ rows) = cond (eqb b (row .letter)) k (kindFrom b (suc k) rows)
+
+-- of each of the rows from kind k on, there are no more lines than it allows
+abbrev pub areFew : List (List ℤ) → ℕ → List Kind → Bool
+areFew lines k [] = true
+areFew lines k (row ∷ rows) = leb (count (isKind k) lines) (row .most) && areFew lines (suc k) rows
+
 -- ════ the text: question 1
 
--- the kind of a letter, 0 for what is no letter of a book
+-- the kind of the line that a byte begins, 0 for what is no letter of a book
+unfoldable pub kindOfByte : ℕ → ℕ
+kindOfByte b = kindFrom b 1 kinds
+
+-- the kind of a letter, which is a field of one byte
 unfoldable pub kindOfLetter : List ℕ → ℕ
-kindOfLetter letter =
-    cond (eqList eqb letter (66 ∷ [])) 1
-    (cond (eqList eqb letter (80 ∷ [])) 2
-    (cond (eqList eqb letter (84 ∷ [])) 3 0))
+kindOfLetter [] = 0
+kindOfLetter (b ∷ []) = kindOfByte b
+kindOfLetter (b ∷ c ∷ bytes) = 0
 
 -- "a letter B, P or T and then one or more decimal numbers .., each after one comma"
 unfoldable pub isTextLine : List (List ℕ) → Bool
@@ -40,41 +177,13 @@ textLines text = map lineNumbers (linesOf text)
 
 -- ════ lines as numbers: questions 2 to 6
 
-abbrev pub numberAt : List ℤ → ℕ → ℤ
-numberAt line k = getD line k (pos 0)
-
--- a number that is no negative one: a word, a limit, a count
-abbrev pub naturalAt : List ℤ → ℕ → ℕ
-naturalAt line k = natOf (numberAt line k)
-
-abbrev pub isKind : ℕ → List ℤ → Bool
-isKind k line = eqℤ (numberAt line 0) (pos k)
-
-abbrev pub isB : List ℤ → Bool
-isB line = isKind 1 line
-
-abbrev pub isP : List ℤ → Bool
-isP line = isKind 2 line
-
-abbrev pub isT : List ℤ → Bool
-isT line = isKind 3 line
-
--- "a and b each 1 to 8"
-abbrev pub isPhraseLength : ℤ → Bool
-isPhraseLength z = withinℤ (pos 1) (pos 8) z
-
--- a + b + 4; 0 where a or b is out of range or missing
-abbrev pub phraseSize : List ℤ → ℕ
-phraseSize line =
-    cond (isPhraseLength (numberAt line 1) && isPhraseLength (numberAt line 2)) (naturalAt line 1 + naturalAt line 2 + 4) 0
-
--- "So the three kinds take 4, a + b + 4 and 5 numbers"; 0 for an unknown kind
-unfoldable pub sizeOf : List ℤ → ℕ
-sizeOf line = cond (isB line) 4 (cond (isP line) (phraseSize line) (cond (isT line) 5 0))
+-- how many numbers the line takes that stands at the front; 0 for an unknown kind
+unfoldable pub sizeOf : Form → List ℤ → ℕ
+sizeOf form line = said 0 (λ row. row .size form line) line
 
 -- question 2, of a line: "Has each line the fields of its kind, with a and b in range?"
-unfoldable pub isWhole : List ℤ → Bool
-isWhole line = not (isEmpty line) && eqb (length line) (sizeOf line)
+unfoldable pub isWhole : Form → List ℤ → Bool
+isWhole form line = not (isEmpty line) && eqb (length line) (sizeOf form line)
 
 -- the lines of a loaded list. "So too for a loaded list with an unknown kind or a last line that is cut off": what cannot
 -- be cut is one last line, which is not whole. `fuel` is the list's length, and each line takes at least one number
@@ -82,7 +191,7 @@ unfoldable pub cutLines : ℕ → List ℤ → List (List ℤ)
 cutLines zero numbers = []
 cutLines (suc fuel) [] = []
 cutLines (suc fuel) (z ∷ numbers) =
-    elim (sizeOf (z ∷ numbers)) [
+    elim (sizeOf InList (z ∷ numbers)) [
       | zero ↦ (z ∷ numbers) ∷ []
       | suc size ↦ (z ∷ take size numbers) ∷ cutLines fuel (drop size numbers)
     ]
@@ -95,44 +204,13 @@ unfoldable pub isOneBFirst : List (List ℤ) → Bool
 isOneBFirst [] = false
 isOneBFirst (line ∷ lines) = isB line && not (any isB lines)
 
--- "The scores u, g and s are −1,000,000 to 1,000,000"
-abbrev pub isScore : ℤ → Bool
-isScore z = withinℤ (negℤ (pos 1_000_000)) (pos 1_000_000) z
-
--- "Words are 1 to 65,535."
-abbrev pub isWord : ℤ → Bool
-isWord z = withinℤ (pos 1) (pos 65_535) z
-
--- "Word 0 is the start symbol and may stand only as v or w."
-abbrev pub isWordOrStart : ℤ → Bool
-isWordOrStart z = withinℤ (pos 0) (pos 65_535) z
-
--- "reordering limit d, 0 to 32; penalty eta, −10,000 to 10,000; score u for an unseen triple"
-abbrev pub rangesB : List ℤ → Bool
-rangesB line =
-    withinℤ (pos 0) (pos 32) (numberAt line 1)
-    && withinℤ (negℤ (pos 10_000)) (pos 10_000) (numberAt line 2)
-    && isScore (numberAt line 3)
-
--- after the kind, a and b: words, and the score as the last
-abbrev pub rangesP : List ℤ → Bool
-rangesP line = all isWord (dropLast (drop 3 line)) && isScore (numberAt line (length line - 1))
-
--- "the score s of target word y after the words v and w"
-abbrev pub rangesT : List ℤ → Bool
-rangesT line =
-    isWordOrStart (numberAt line 1)
-    && isWordOrStart (numberAt line 2)
-    && isWord (numberAt line 3)
-    && isScore (numberAt line 4)
-
--- question 4, of a line: "Is every number in its range?"
+-- question 4, of a line: "Is every number in its range?" Question 2 has refused an unknown kind
 unfoldable pub isInRange : List ℤ → Bool
-isInRange line = cond (isB line) (rangesB line) (cond (isP line) (rangesP line) (rangesT line))
+isInRange line = said false (λ row. row .ranges line) line
 
--- question 5: "At most 4,096 P and 8,192 T lines."
+-- question 5: "Are there no more P and T lines than allowed?" It asks of every kind but B, the first row, of which question 3 asks
 unfoldable pub isNotTooLong : List (List ℤ) → Bool
-isNotTooLong lines = leb (count isP lines) 4_096 && leb (count isT lines) 8_192
+isNotTooLong lines = areFew lines 2 (drop 1 kinds)
 
 -- v, w and y of a T line
 abbrev pub tripleKey : List ℤ → List ℤ
@@ -142,10 +220,10 @@ tripleKey line = take 3 (drop 1 line)
 unfoldable pub isNoTripleTwice : List (List ℤ) → Bool
 isNoTripleTwice lines = noneTwice (eqList eqℤ) (map tripleKey (keep isT lines))
 
--- questions 2 to 6
-unfoldable pub linesRefusal : List (List ℤ) → ℕ
-linesRefusal lines =
-    2 unless all isWhole lines
+-- questions 2 to 6, of the lines of a text or of a loaded list
+unfoldable pub linesRefusal : Form → List (List ℤ) → ℕ
+linesRefusal form lines =
+    2 unless all (isWhole form) lines
     orelse 3 unless isOneBFirst lines
     orelse 4 unless all isInRange lines
     orelse 5 unless isNotTooLong lines
@@ -153,7 +231,7 @@ linesRefusal lines =
 
 -- "Any call that takes a loaded book ..: 2 to 6."
 unfoldable pub bookRefusal : List ℤ → ℕ
-bookRefusal loaded = linesRefusal (loadedLines loaded)
+bookRefusal loaded = linesRefusal InList (loadedLines loaded)
 
 -- ════ reading a book: questions 1 to 7
 
@@ -165,7 +243,7 @@ loadedOf text = concat (textLines text)
 unfoldable pub readRefusal : List ℕ → ℕ → ℕ
 readRefusal text places =
     1 unless isBookText text
-    orelse linesRefusal (textLines text)
+    orelse linesRefusal InText (textLines text)
     orelse 7 unless leb (length (loadedOf text)) places
 
 -- ════ the model that a loaded book states

@@ -1,5 +1,5 @@
 -- The B line stands at the front of the list; and a book that is open has the model of its triples.
-use Prim.Native.Nat.{ℕ, _<_, _≤_, _+_}
+use Prim.Native.Nat.{ℕ, _<_, _+_}
 use native.Mathlib.Omega.{arith}
 use mathlib.Core.Path.{_≡_, refl, sym, _∙_, ap, ap₂, subst}
 use mathlib.Core.Bool.{true, false≢true}
@@ -8,7 +8,7 @@ use lib.IntN.{ℤ}
 use lib.ListN.{length, getD}
 use Rattle.laws.specs.Integers.{Within, natOf}
 use Rattle.notes.specs.Questions.{_orelse_, number}
-use Rattle.notes.specs.Book.{numberAt, naturalAt, isOneBFirst, bookRefusal, bookOf, bookOfLines, loadedLines}
+use Rattle.notes.specs.Book.{InList, numberAt, naturalAt, isOneBFirst, bookRefusal, bookOf, bookOfLines, loadedLines}
 use Rattle.notes.specs.Direction.{wordCount, directionRefusal}
 use Rattle.notes.specs.Derivation.{listedScore, tripleScore}
 use Rattle.notes.specs.declared.Refusal.{Refusal}
@@ -38,7 +38,7 @@ module _ (loaded : List ℤ) (passed : bookRefusal loaded ≡ 0) where
   -- a book that passes has a first line
   not-empty : 0 < length loaded
   unfolding bookRefusal isOneBFirst
-  not-empty = by loaded (lines-passed (loadedLines loaded) passed .one-b)
+  not-empty = by loaded (lines-passed InList (loadedLines loaded) passed .one-b)
     where
       by : (l : List ℤ) → isOneBFirst (loadedLines l) ≡ true → 0 < length l
       by [] e = absurd (false≢true (sym (ap isOneBFirst lines-end) ∙ e))
@@ -47,7 +47,7 @@ module _ (loaded : List ℤ) (passed : bookRefusal loaded ≡ 0) where
   -- and it stands at the front of the list
   front : LineAt loaded 0 (sizeAt loaded 0)
   unfolding bookRefusal
-  front = line-here loaded 0 (sizeAt loaded 0) (lines-passed (loadedLines loaded) passed .whole) not-empty refl
+  front = line-here loaded 0 (sizeAt loaded 0) (lines-passed InList (loadedLines loaded) passed .whole) not-empty refl
 
   -- its numbers are the first of the list
   first-number : (i : ℕ) → i < 4 → numberAt (getD (loadedLines loaded) 0 []) i ≡ numberAt loaded i

@@ -9,7 +9,7 @@ use lib.Dec.{leb}
 use lib.IntN.{ℤ}
 use lib.ListN.{length}
 use Rattle.notes.specs.Questions.{_unless_, number}
-use Rattle.notes.specs.Book.{isBookText, textLines, linesRefusal, loadedOf, readRefusal}
+use Rattle.notes.specs.Book.{InText, isBookText, textLines, linesRefusal, loadedOf, readRefusal}
 use Rattle.notes.specs.Reply.{refused, done, reply, readReply, writtenOver, writtenIf, readBook, readBookList}
 use Rattle.notes.specs.declared.Refusal.{Refusal}
 use Rattle.notes.specs.declared.Read.{Read}
@@ -22,15 +22,15 @@ module _ (t : List ℕ) (places : ℕ) where
   -- questions 1 to 6 refuse
   pub text-refused : (refusal : Refusal) → textRefusal t ≡ number refusal → readRefusal t places ≡ number refusal
   unfolding readRefusal
-  text-refused refusal e = refused-before-all refusal (1 unless isBookText t) (linesRefusal (textLines t)) (7 unless leb (length (loadedOf t)) places) e
+  text-refused refusal e = refused-before-all refusal (1 unless isBookText t) (linesRefusal InText (textLines t)) (7 unless leb (length (loadedOf t)) places) e
 
   -- they pass
   module _ (e : textRefusal t ≡ 0) where
     pub text-is : isBookText t ≡ true
-    text-is = test-passes 0 (isBookText t) (first-passes (1 unless isBookText t) (linesRefusal (textLines t)) e)
+    text-is = test-passes 0 (isBookText t) (first-passes (1 unless isBookText t) (linesRefusal InText (textLines t)) e)
 
-    lines-are : linesRefusal (textLines t) ≡ 0
-    lines-are = rest-passes (1 unless isBookText t) (linesRefusal (textLines t)) e
+    lines-are : linesRefusal InText (textLines t) ≡ 0
+    lines-are = rest-passes (1 unless isBookText t) (linesRefusal InText (textLines t)) e
 
     pub no-room : leb (length (loadedOf t)) places ≡ false → readRefusal t places ≡ 7
     unfolding readRefusal

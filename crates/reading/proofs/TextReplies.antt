@@ -5,7 +5,7 @@ use mathlib.Core.Bool.{true}
 use mathlib.Core.List.{List}
 use lib.IntN.{ℤ}
 use lib.ListN.{length}
-use Rattle.notes.specs.Book.{Book, isBookText, textLines, loadedOf, linesRefusal}
+use Rattle.notes.specs.Book.{InText, Book, isBookText, textLines, loadedOf, linesRefusal}
 use Rattle.notes.specs.Reply.{reply, readReply}
 use Rattle.notes.proofs.Chains.{reply-done}
 use Rattle.loading.specs.Loaded.{Answered}
@@ -16,6 +16,6 @@ use Rattle.reading.specs.Text.{textRefusal, countedAs}
 
 -- the reply of a text, with the count of its numbers
 pub answer-counted : (t : List ℕ) (count : ℕ) (book : Book) (index : List ℤ) (r : Loaded) → isBookText t ≡ true → count ≡ length (loadedOf t)
-    → Answered (linesRefusal (textLines t)) book index r → readReply (countedAs r count) ≡ reply (textRefusal t) (length (loadedOf t))
-answer-counted t count book index (Passes s) i c a = rw (c, i) (sym (reply-done (linesRefusal (textLines t)) (length (loadedOf t)) (a .passes)))
-answer-counted t count book index (Refused refusal) i c a = rw i (refused-reply refusal (linesRefusal (textLines t)) (length (loadedOf t)) a)
+    → Answered (linesRefusal InText (textLines t)) book index r → readReply (countedAs r count) ≡ reply (textRefusal t) (length (loadedOf t))
+answer-counted t count book index (Passes s) i c a = rw (c, i) (sym (reply-done (linesRefusal InText (textLines t)) (length (loadedOf t)) (a .passes)))
+answer-counted t count book index (Refused refusal) i c a = rw i (refused-reply refusal (linesRefusal InText (textLines t)) (length (loadedOf t)) a)

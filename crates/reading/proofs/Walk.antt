@@ -10,7 +10,7 @@ use lib.IntN.{ℤ}
 use lib.ListN.{length, drop, length-append, drop-of-length-le}
 use Rattle.laws.specs.Lists.{all}
 use Rattle.laws.proofs.Tests.{clash}
-use Rattle.notes.specs.Book.{isWhole, isBookText, textLines, loadedOf}
+use Rattle.notes.specs.Book.{InText, isWhole, isBookText, textLines, loadedOf}
 use Rattle.fields.specs.Scan.{Line, run, atLine, emitLine}
 use Rattle.text.specs.Walk.{RowRead}
 use Rattle.text.specs.declared.TextLine.{TextLine}
@@ -34,7 +34,7 @@ pub record Noted (text : List ℕ) (index₀ : List ℤ) (acc : Survey) (index :
   pub line : At text at
   pub surveyed : surveyFrom acc (textLines (drop at text)) ≡ surveyFrom fresh (textLines text)
   pub gathered : gramsFrom index (acc .ts) (textLines (drop at text)) ≡ gramsFrom index₀ 0 (textLines text)
-  pub asked : all isWhole (textLines (drop at text)) ≡ all isWhole (textLines text)
+  pub asked : all (isWhole InText) (textLines (drop at text)) ≡ all (isWhole InText) (textLines text)
   pub total : count + length (loadedOf (drop at text)) ≡ length (loadedOf text)
 
 -- the invariant: the lines before `at` are good; they were noted, and `row` has a place for each number of a whole line
@@ -59,12 +59,12 @@ walk-start text index row l = record {
 }
 
 -- a whole line takes some bytes
-pub row-later : {text : List ℕ} {at : ℕ} {row row′ : List ℤ} {r : TextLine} → RowRead text at row row′ r → r .good ≡ true → isWhole (numbersAt text at) ≡ true → at < r .end
-row-later {text} {at} f g e = omega (arith, f .long g, emit-few true Line (drop at text), four-numbers (numbersAt text at) e)
+pub row-later : {text : List ℕ} {at : ℕ} {row row′ : List ℤ} {r : TextLine} → RowRead text at row row′ r → r .good ≡ true → isWhole InText (numbersAt text at) ≡ true → at < r .end
+row-later {text} {at} f g e = omega (arith, f .long g, emit-few true Line (drop at text), four-numbers InText (numbersAt text at) e)
 
 module _ {text : List ℕ} {index₀ index row row′ : List ℤ} {acc : Survey} {count at : ℕ} (w : Walked text index₀ acc index row count at) (r : TextLine) (f : RowRead text at row row′ r) where
   -- a line that is not good: the text is no book's
-  pub walk-bad : r .good ≡ false → isBookText text ≡ true → all isWhole (textLines text) ≡ false
+  pub walk-bad : r .good ≡ false → isBookText text ≡ true → all (isWhole InText) (textLines text) ≡ false
   walk-bad g t =
       clash (book-run text t)
       (sym (w .ends) ∙ f .ends ∙ ap (λ (x : Bool). x && atLine (run true Line (drop (r .end) text))) g)
@@ -74,27 +74,27 @@ module _ {text : List ℕ} {index₀ index row row′ : List ℤ} {acc : Survey}
     row-next t = next-row text at (r .end) (w .noted t .line) h (f .long g)
 
     -- a line that is not whole
-    pub walk-broken : isWhole (numbersAt text at) ≡ false → isBookText text ≡ true → all isWhole (textLines text) ≡ false
+    pub walk-broken : isWhole InText (numbersAt text at) ≡ false → isBookText text ≡ true → all (isWhole InText) (textLines text) ≡ false
     walk-broken e t =
-        sym (w .noted t .asked) ∙ ap (all isWhole) (row-next t .lines)
-        ∙ ap (λ (x : Bool). x && all isWhole (textLines (drop (r .end) text))) e
+        sym (w .noted t .asked) ∙ ap (all (isWhole InText)) (row-next t .lines)
+        ∙ ap (λ (x : Bool). x && all (isWhole InText) (textLines (drop (r .end) text))) e
 
     -- a line that is
-    module _ (e : isWhole (numbersAt text at) ≡ true) where
+    module _ (e : isWhole InText (numbersAt text at) ≡ true) where
       noted-next : isBookText text ≡ true → Noted text index₀ (withLine acc (numbersAt text at)) (withGram index (acc .ts) (numbersAt text at)) (count + r .count) (r .end)
       unfolding surveyFrom gramsFrom withLine
       noted-next t = let p = w .noted t in let n = row-next t in record {
         line = n .then;
         surveyed = sym (ap (surveyFrom acc) (n .lines)) ∙ p .surveyed;
         gathered = sym (ap (gramsFrom index (acc .ts)) (n .lines)) ∙ p .gathered;
-        asked = sym (ap (all isWhole) (n .lines) ∙ ap (λ (x : Bool). x && all isWhole (textLines (drop (r .end) text))) e) ∙ p .asked;
+        asked = sym (ap (all (isWhole InText)) (n .lines) ∙ ap (λ (x : Bool). x && all (isWhole InText) (textLines (drop (r .end) text))) e) ∙ p .asked;
         total = omega (arith, p .total, f .counted g, ap length (n .loaded), length-append (numbersAt text at) (loadedOf (drop (r .end) text)));
       }
 
       -- it has four bytes at least: so even of the longest text there are not too many lines to count
       pub walk-next : Walked text index₀ (withLine acc (numbersAt text at)) (withGram index (acc .ts) (numbersAt text at)) row′ (count + r .count) (r .end)
       walk-next =
-          let four = four-numbers (numbersAt text at) e in
+          let four = four-numbers InText (numbersAt text at) e in
           let most = emit-few true Line (drop at text) in
           record {
             ends = sym (f .ends ∙ ap (λ (x : Bool). x && atLine (run true Line (drop (r .end) text))) g) ∙ w .ends;
@@ -117,7 +117,7 @@ walk-end {text} {index₀} {index} {row} {acc} {count} {at} w h s =
     record {
       formed = t;
       lines = record {
-        whole = sym (p .asked) ∙ ap (all isWhole) none;
+        whole = sym (p .asked) ∙ ap (all (isWhole InText)) none;
         surveyed = sym (ap (surveyFrom acc) none) ∙ p .surveyed;
         gathered = sym (ap (gramsFrom index (acc .ts)) none) ∙ p .gathered;
       };

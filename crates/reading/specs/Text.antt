@@ -7,7 +7,7 @@ use lib.IntN.{ℤ}
 use lib.ListN.{length}
 use Rattle.laws.specs.Lists.{all}
 use Rattle.notes.specs.Questions.{_unless_, _orelse_}
-use Rattle.notes.specs.Book.{isBookText, isWhole, textLines, loadedOf, linesRefusal}
+use Rattle.notes.specs.Book.{InText, isBookText, isWhole, textLines, loadedOf, linesRefusal}
 use Rattle.notes.specs.declared.Read.{Read}
 use Rattle.notes.specs.declared.Read.the-variants.{Numbers, Refused as ReadRefused}
 use Rattle.book.specs.declared.survey.Survey.{Survey}
@@ -19,18 +19,18 @@ use Rattle.loading.specs.Loaded.{WholeAs}
 
 -- questions 1 to 6
 abbrev pub textRefusal : List ℕ → ℕ
-textRefusal text = 1 unless isBookText text orelse linesRefusal (textLines text)
+textRefusal text = 1 unless isBookText text orelse linesRefusal InText (textLines text)
 
 -- it is a book's text, its lines are whole and s is their survey, and it has `count` numbers
 pub record WholeText (text : List ℕ) (index₀ index₁ : List ℤ) (s : Survey) (count : ℕ) : Type 0 where
   pub formed : isBookText text ≡ true
-  pub lines : WholeAs (textLines text) index₀ index₁ s
+  pub lines : WholeAs InText (textLines text) index₀ index₁ s
   pub counted : count ≡ length (loadedOf text)
 
 -- questions 1 and 2 of a text; where both pass, its survey
 abbrev pub TextSurveyIs : List ℕ → List ℤ → List ℤ → TextSurvey → Type 0
 TextSurveyIs text index₀ index₁ (Whole s count) = WholeText text index₀ index₁ s count
-TextSurveyIs text index₀ index₁ Broken = isBookText text ≡ true → all isWhole (textLines text) ≡ false
+TextSurveyIs text index₀ index₁ Broken = isBookText text ≡ true → all (isWhole InText) (textLines text) ≡ false
 
 -- the answer with the count of the numbers, without what a search needs
 abbrev pub countedAs : Loaded → ℕ → Read

@@ -12,7 +12,7 @@ ghost use Prim.Native.Nat.{_≤_};
 ghost use lib.ListN.{length};
 ghost use Rattle.laws.specs.Lists.{all};
 ghost use Rattle.notes.specs.Questions.{number};
-ghost use Rattle.notes.specs.Book.{isBookText, isWhole, textLines, loadedOf};
+ghost use Rattle.notes.specs.Book.{InText, isBookText, isWhole, textLines, loadedOf};
 ghost use Rattle.notes.specs.Reply.{readReply, reply, readBook, readBookList};
 ghost use Rattle.ngrams.specs.Parts.{recordsEnd};
 ghost use Rattle.reading.specs.Text.{TextSurveyIs, textRefusal, countedAs};
@@ -57,7 +57,7 @@ fn survey_text(text: &[u8], index: &mut [i32]) -> TextSurvey
 
 // Questions 1 and 2, of a text whose lines are not all good and whole.
 fn refusal_of(text: &[u8]) -> Refusal
-    requires { ⌜ (isBookText (now text) ≡ true → all isWhole (textLines (now text)) ≡ false) ⌝ }
+    requires { ⌜ (isBookText (now text) ≡ true → all (isWhole InText) (textLines (now text)) ≡ false) ⌝ }
     ensures { λ r. ⌜ textRefusal (now (text .entry)) ≡ number r ⌝ }
 {
     if text::is_book_text(text) {

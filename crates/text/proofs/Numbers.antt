@@ -3,7 +3,7 @@
 use mathlib.Core.Path.{_≡_, refl, sym, ap, _∙_}
 use mathlib.Core.Bool.{Bool, true, false, cond, _&&_}
 use mathlib.Core.List.{List, [], _∷_, _++_, append-nil, map, dropLast}
-use Prim.Native.Nat.{ℕ, _+_, _*_, _-_, _≤_}
+use Prim.Native.Nat.{ℕ, zero, suc, _+_, _*_, _-_, _≤_}
 use native.Mathlib.Omega.{arith}
 use native.Mathlib.Nat.{zero-mul, zero-add}
 use lib.Dec.{eqb}
@@ -12,11 +12,11 @@ use lib.IntN.{ℤ, pos, negℤ}
 use Rattle.laws.specs.Lists.{isEmpty, concat}
 use Rattle.laws.proofs.Tests.{both, clash}
 use Rattle.notes.specs.Numerals.{isDigit, digitsValue, valueOf}
-use Rattle.notes.specs.Book.{lineNumbers, isBookText, textLines, loadedOf}
+use Rattle.notes.specs.Book.{kindOfByte, lineNumbers, isBookText, textLines, loadedOf}
 use Rattle.notes.specs.Direction.{isDirectionText, directionNumbers}
 use Rattle.fields.specs.Scan.{Scan, Line, Kind, Field, Minus, Digits, Broken, moreDigits, next, lineStart, afterNumber, run, atLine, signed, scanned, isMark, emit}
 use Rattle.fields.proofs.Cut.{Cut, line, cut, Sort, sort, areNumbers, isRest, book-is, book-empty, direction-is, lines-are}
-use Rattle.fields.proofs.Form.{accepted, stop, no-line, kindOfByte, kind-is, letterBy, numberBy, positiveBy, digitsBy}
+use Rattle.fields.proofs.Form.{accepted, stop, no-line, kind-is, letterBy, numberBy, positiveBy, digitsBy}
 
 -- the numbers of the lines that have their byte 10
 abbrev inLines : List (List (List ℕ)) → List ℤ
@@ -70,9 +70,9 @@ module _ (book : Bool) (bs : List ℕ) (ih : (s : Scan) → atLine (run book s b
     num-other : (s : Scan) → atLine (run book (next book s b) bs) ≡ true
         → emit book (next book s b) bs ≡ told s (record { field = b ∷ cut bs .field; fields = cut bs .fields; lines = cut bs .lines })
     unfolding valueOf
-    num-other Line h = of-letter (by book (eqb b 66) (eqb b 80) (eqb b 84) h)
+    num-other Line h = of-letter (by book (kindOfByte b) h)
       where
-        of-letter : Letter book bs (lineStart book b) (kindOfByte (eqb b 66) (eqb b 80) (eqb b 84))
+        of-letter : Letter book bs (lineStart book b) (kindOfByte b)
             → emit book (lineStart book b) bs ≡ inLines (((b ∷ cut bs .field) ∷ cut bs .fields) ∷ cut bs .lines)
         of-letter g =
             g .told
@@ -84,12 +84,10 @@ module _ (book : Bool) (bs : List ℕ) (ih : (s : Scan) → atLine (run book s b
             let a = both (isEmpty (cut bs .field) && areNumbers (cut bs .fields)) (isRest book (cut bs .lines)) (sym (accepted book bs (Kind (pos k))) ∙ h) in
             record { alone = both (isEmpty (cut bs .field)) (areNumbers (cut bs .fields)) (a .0) .0; rest = a .1; told = ih (Kind (pos k)) h }
 
-        by : (m x y z : Bool) → atLine (run book (letterBy m x y z) bs) ≡ true → Letter book bs (letterBy m x y z) (kindOfByte x y z)
-        by false x y z h = none _ refl h
-        by true true y z h = to 1 h
-        by true false true z h = to 2 h
-        by true false false true h = to 3 h
-        by true false false false h = none _ refl h
+        by : (m : Bool) (k : ℕ) → atLine (run book (letterBy m k) bs) ≡ true → Letter book bs (letterBy m k) k
+        by false k h = none _ refl h
+        by true zero h = none _ refl h
+        by true (suc k) h = to (suc k) h
     num-other (Kind k) h = none _ (rw no44) h
     num-other Field h = by (eqb b 45) (isDigit b) h
       where

@@ -1,18 +1,23 @@
--- Each way through its tests is the same way through the definition.
+-- Each way through its tests is the same way through the table of kinds.
 use borrow.Author.Tests.{eq-eqb, ne-eqb}
+use Rattle.notes.specs.Book.{kindOfByte}
 use Rattle.fields.proofs.kind_of.Statement.{statement}
 use Rattle.fields.proofs.kind_of.Tie as tie
 
 returns : tie.Need-returns
+unfolding kindOfByte
 returns c = simp (eq-eqb _ _ (c .if1 .taken))
 
 returns-2 : tie.Need-returns-2
+unfolding kindOfByte
 returns-2 c = simp (ne-eqb _ _ (c .before .if1 .left), eq-eqb _ _ (c .if2 .taken))
 
 returns-3 : tie.Need-returns-3
+unfolding kindOfByte
 returns-3 c = simp (ne-eqb _ _ (c .before .before .if1 .left), ne-eqb _ _ (c .before .if2 .left), eq-eqb _ _ (c .if3 .taken))
 
 returns-4 : tie.Need-returns-4
+unfolding kindOfByte
 returns-4 c = simp (ne-eqb _ _ (c .before .before .if1 .left), ne-eqb _ _ (c .before .if2 .left), ne-eqb _ _ (c .if3 .left))
 
 pub kind-of-spec : {M : Type 1} → statement M

@@ -9,13 +9,13 @@ use lib.IntN.{pos}
 use lib.ListN.{length, drop, getD}
 use Rattle.laws.specs.Lists.{all}
 use Rattle.laws.proofs.Lists.{dropLast-next, dropLast-end}
-use Rattle.notes.specs.Book.{isWord}
+use Rattle.notes.specs.Book.{isPhraseWord}
 use Rattle.lines.proofs.Calls.{reread}
 use Rattle.lines.proofs.are_words.Statement.{statement}
 use Rattle.lines.proofs.are_words.Tie as tie
 
 abbrev Inv-loop : tie.InvT-loop
-Inv-loop line i₀ i = (all isWord (dropLast (drop i line)) ≡ all isWord (dropLast (drop 3 line))) × (i ≤ length line + 3)
+Inv-loop line i₀ i = (all isPhraseWord (dropLast (drop i line)) ≡ all isPhraseWord (dropLast (drop 3 line))) × (i ≤ length line + 3)
 
 abbrev μ-loop : tie.MeasureT-loop
 μ-loop line i₀ i = length line - i
@@ -26,24 +26,24 @@ loop-holds c = (refl, omega arith)
 add-loop : tie.Need-add-loop Inv-loop μ-loop
 add-loop c = omega arith
 
-mul-is-word : tie.Need-mul-is-word Inv-loop μ-loop
-mul-is-word c = omega arith
+mul-is-phrase-word : tie.Need-mul-is-phrase-word Inv-loop μ-loop
+mul-is-phrase-word c = omega arith
 
-shared-slice-copy-out-is-word : tie.Need-shared-slice-copy-out-is-word Inv-loop μ-loop
-shared-slice-copy-out-is-word c = omega arith
+shared-slice-copy-out-is-phrase-word : tie.Need-shared-slice-copy-out-is-phrase-word Inv-loop μ-loop
+shared-slice-copy-out-is-phrase-word c = omega arith
 
-is-word-requires : tie.Need-is-word-requires Inv-loop μ-loop
-is-word-requires c κs = tt
+is-phrase-word-requires : tie.Need-is-phrase-word-requires Inv-loop μ-loop
+is-phrase-word-requires c κs = tt
 
 -- what the call said of the word, and what is then known of those from it on
-said : (c : tie.After-is-word Inv-loop μ-loop) → isWord (getD (c .before .before .before .before .args .line .now) (c .before .before .before .loop .i) (pos 0)) ≡ c .is-word .result
-said c = sym (reread isWord {x = getD (c .before .before .before .before .args .line .now) (c .before .before .before .loop .i) (pos 0)} (c .is-word .ensures) (c .before .is-word-arg .given) refl)
+said : (c : tie.After-is-phrase-word Inv-loop μ-loop) → isPhraseWord (getD (c .before .before .before .before .args .line .now) (c .before .before .before .loop .i) (pos 0)) ≡ c .is-phrase-word .result
+said c = sym (reread isPhraseWord {x = getD (c .before .before .before .before .args .line .now) (c .before .before .before .loop .i) (pos 0)} (c .is-phrase-word .ensures) (c .before .is-phrase-word-arg .given) refl)
 
-turn : (c : tie.After-is-word Inv-loop μ-loop) → all isWord (dropLast (drop 3 (c .before .before .before .before .args .line .now))) ≡ c .is-word .result && all isWord (dropLast (drop (c .before .before .before .loop .i + 1) (c .before .before .before .before .args .line .now)))
-turn c = sym (c .before .before .before .loop .inv .0) ∙ ap (all isWord) (dropLast-next (c .before .before .before .before .args .line .now) (c .before .before .before .loop .i) (pos 0) (omega arith)) ∙ rw (said c)
+turn : (c : tie.After-is-phrase-word Inv-loop μ-loop) → all isPhraseWord (dropLast (drop 3 (c .before .before .before .before .args .line .now))) ≡ c .is-phrase-word .result && all isPhraseWord (dropLast (drop (c .before .before .before .loop .i + 1) (c .before .before .before .before .args .line .now)))
+turn c = sym (c .before .before .before .loop .inv .0) ∙ ap (all isPhraseWord) (dropLast-next (c .before .before .before .before .args .line .now) (c .before .before .before .loop .i) (pos 0) (omega arith)) ∙ rw (said c)
 
 returns : tie.Need-returns Inv-loop μ-loop
-returns c = sym (turn (c .before) ∙ rw (not-true (c .before .is-word .result) (c .if1 .taken)))
+returns c = sym (turn (c .before) ∙ rw (not-true (c .before .is-phrase-word .result) (c .if1 .taken)))
 
 add-i : tie.Need-add-i Inv-loop μ-loop
 add-i c = omega arith
@@ -52,10 +52,10 @@ loop-less : tie.Need-loop-less Inv-loop μ-loop
 loop-less c = omega arith
 
 loop-again : tie.Need-loop-again Inv-loop μ-loop
-loop-again c = (sym (turn (c .before) ∙ rw (not-false (c .before .is-word .result) (c .if1 .left))), omega arith)
+loop-again c = (sym (turn (c .before) ∙ rw (not-false (c .before .is-phrase-word .result) (c .if1 .left))), omega arith)
 
 returns-2 : tie.Need-returns-2 Inv-loop μ-loop
-returns-2 c = sym (sym (c .before .loop .inv .0) ∙ ap (all isWord) (dropLast-end (c .before .before .args .line .now) (c .before .loop .i) (omega arith)))
+returns-2 c = sym (sym (c .before .loop .inv .0) ∙ ap (all isPhraseWord) (dropLast-end (c .before .before .args .line .now) (c .before .loop .i) (omega arith)))
 
 pub are-words-spec : {M : Type 1} → statement M
 are-words-spec =
@@ -65,9 +65,9 @@ are-words-spec =
     μ-loop
     loop-holds
     add-loop
-    mul-is-word
-    shared-slice-copy-out-is-word
-    is-word-requires
+    mul-is-phrase-word
+    shared-slice-copy-out-is-phrase-word
+    is-phrase-word-requires
     returns
     add-i
     loop-less

@@ -1,6 +1,6 @@
 -- The kinds are asked in the definition's order.
 use mathlib.Core.Path.{sym, _∙_}
-use Rattle.lines.proofs.Lines.{range-b, range-p, range-t}
+use Rattle.lines.proofs.Lines.{range-b, range-p, range-t, range-none}
 use borrow.Author.Needs.{needs}
 use Rattle.lines.proofs.is_in_range.Statement.{statement}
 use Rattle.lines.proofs.is_in_range.Tie as tie
@@ -23,11 +23,24 @@ ranges-p-requires c κs = search needs
 returns-2 : tie.Need-returns-2
 returns-2 c = c .ranges-p .ensures ∙ range-p (c .before .before .before .before .before .args .line .now) (sym (c .before .before .before .before .is-kind .ensures) ∙ c .before .before .before .if1 .left) (sym (c .before .before .is-kind2 .ensures) ∙ c .before .if2 .taken)
 
+is-kind-requires-3 : tie.Need-is-kind-requires-3
+is-kind-requires-3 c κs = search needs
+
 ranges-t-requires : tie.Need-ranges-t-requires
 ranges-t-requires c κs = search needs
 
 returns-3 : tie.Need-returns-3
-returns-3 c = c .ranges-t .ensures ∙ range-t (c .before .before .before .before .before .args .line .now) (sym (c .before .before .before .before .is-kind .ensures) ∙ c .before .before .before .if1 .left) (sym (c .before .before .is-kind2 .ensures) ∙ c .before .if2 .left)
+returns-3 c =
+    c .ranges-t .ensures
+    ∙ range-t (c .before .before .before .before .before .before .before .args .line .now) (sym (c .before .before .before .before .before .before .is-kind .ensures) ∙ c .before .before .before .before .before .if1 .left)
+    (sym (c .before .before .before .before .is-kind2 .ensures) ∙ c .before .before .before .if2 .left)
+    (sym (c .before .before .is-kind3 .ensures) ∙ c .before .if3 .taken)
+
+returns-4 : tie.Need-returns-4
+returns-4 c =
+    range-none (c .before .before .before .before .before .before .args .line .now) (sym (c .before .before .before .before .before .is-kind .ensures) ∙ c .before .before .before .before .if1 .left)
+    (sym (c .before .before .before .is-kind2 .ensures) ∙ c .before .before .if2 .left)
+    (sym (c .before .is-kind3 .ensures) ∙ c .if3 .left)
 
 pub is-in-range-spec : {M : Type 1} → statement M
 is-in-range-spec =
@@ -39,5 +52,7 @@ is-in-range-spec =
     is-kind-requires-2
     ranges-p-requires
     returns-2
+    is-kind-requires-3
     ranges-t-requires
-    returns-3)
+    returns-3
+    returns-4)

@@ -1,5 +1,6 @@
 -- An empty line has no size; any other is whole where its length is its size.
 use Rattle.lines.proofs.Lines.{whole-empty, whole-some}
+use Rattle.notes.specs.Book.{InText}
 use borrow.Author.Needs.{needs}
 use Rattle.lines.proofs.is_whole.Statement.{statement}
 use Rattle.lines.proofs.is_whole.Tie as tie
@@ -11,7 +12,7 @@ size-of-requires : tie.Need-size-of-requires
 size-of-requires c κs = search needs
 
 returns-2 : tie.Need-returns-2
-returns-2 c = whole-some (c .before .before .args .line .now) (c .size-of .result) (c .before .if1 .left) (c .size-of .ensures)
+returns-2 c = whole-some (c .before .before .args .line .now) (c .size-of .result) (c .before .if1 .left) (c .size-of .ensures InText)
 
 pub is-whole-spec : {M : Type 1} → statement M
 is-whole-spec = tie.close (tie.spec returns size-of-requires returns-2)

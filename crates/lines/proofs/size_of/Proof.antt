@@ -9,7 +9,7 @@ is-kind-requires : tie.Need-is-kind-requires
 is-kind-requires c κs = search needs
 
 returns : tie.Need-returns
-returns c = size-b (c .before .before .args .line .now) (sym (c .before .is-kind .ensures) ∙ c .if1 .taken)
+returns c = λ form. size-b (c .before .before .args .line .now) form (sym (c .before .is-kind .ensures) ∙ c .if1 .taken)
 
 is-kind-requires-2 : tie.Need-is-kind-requires-2
 is-kind-requires-2 c κs = search needs
@@ -18,23 +18,23 @@ size-of-phrase-requires : tie.Need-size-of-phrase-requires
 size-of-phrase-requires c κs = search needs
 
 returns-2 : tie.Need-returns-2
-returns-2 c =
+returns-2 c = λ form.
     c .size-of-phrase .ensures
-    ∙ size-p (c .before .before .before .before .before .args .line .now) (sym (c .before .before .before .before .is-kind .ensures) ∙ c .before .before .before .if1 .left)
+    ∙ size-p (c .before .before .before .before .before .args .line .now) form (sym (c .before .before .before .before .is-kind .ensures) ∙ c .before .before .before .if1 .left)
     (sym (c .before .before .is-kind2 .ensures) ∙ c .before .if2 .taken)
 
 is-kind-requires-3 : tie.Need-is-kind-requires-3
 is-kind-requires-3 c κs = search needs
 
 returns-3 : tie.Need-returns-3
-returns-3 c =
-    size-t (c .before .before .before .before .before .before .args .line .now) (sym (c .before .before .before .before .before .is-kind .ensures) ∙ c .before .before .before .before .if1 .left)
+returns-3 c = λ form.
+    size-t (c .before .before .before .before .before .before .args .line .now) form (sym (c .before .before .before .before .before .is-kind .ensures) ∙ c .before .before .before .before .if1 .left)
     (sym (c .before .before .before .is-kind2 .ensures) ∙ c .before .before .if2 .left)
     (sym (c .before .is-kind3 .ensures) ∙ c .if3 .taken)
 
 returns-4 : tie.Need-returns-4
-returns-4 c =
-    size-none (c .before .before .before .before .before .before .args .line .now) (sym (c .before .before .before .before .before .is-kind .ensures) ∙ c .before .before .before .before .if1 .left)
+returns-4 c = λ form.
+    size-none (c .before .before .before .before .before .before .args .line .now) form (sym (c .before .before .before .before .before .is-kind .ensures) ∙ c .before .before .before .before .if1 .left)
     (sym (c .before .before .before .is-kind2 .ensures) ∙ c .before .before .if2 .left)
     (sym (c .before .is-kind3 .ensures) ∙ c .if3 .left)
 

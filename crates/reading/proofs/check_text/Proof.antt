@@ -1,6 +1,6 @@
 -- A survey that breaks off is refusal 1 or 2; of a whole one, what questions 3 to 6 answer is the text's answer.
 use mathlib.Core.Path.{ap, _∙_}
-use Rattle.notes.specs.Book.{textLines}
+use Rattle.notes.specs.Book.{InText, textLines}
 use Rattle.notes.specs.Reply.{readReply}
 use Rattle.reading.specs.Text.{textRefusal}
 use Rattle.notes.proofs.Numbered.{refused-reply}
@@ -42,7 +42,7 @@ returns-2 c =
     let k = c .before .before .settle-whole in
     let s = rw (c .before .before .before .before .before .surveyed .given .1) at (c .before .before .before .before .before .before .before .before .survey-text .ensures) in
     ap readReply (c .counted .ensures)
-    ∙ answer-counted t (c .before .before .before .before .before .surveyed .given .0 .1 .0) _ _ (k .result) (s .formed) (s .counted) (k .ensures (textLines t) _ (s .lines))
+    ∙ answer-counted t (c .before .before .before .before .before .surveyed .given .0 .1 .0) _ _ (k .result) (s .formed) (s .counted) (k .ensures InText (textLines t) _ (s .lines))
 
 pub check-text-spec : {M : Type 1} → statement M
 check-text-spec =

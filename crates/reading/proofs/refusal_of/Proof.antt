@@ -1,7 +1,7 @@
 -- Of a book's text a line is not whole, which is refusal 2; of another, refusal 1.
 use mathlib.Core.Path.{_≡_, sym, _∙_}
 use mathlib.Core.Bool.{true}
-use Rattle.notes.specs.Book.{isBookText, textLines}
+use Rattle.notes.specs.Book.{InText, isBookText, textLines}
 use Rattle.book.proofs.Counts.{broken-refusal}
 use borrow.Author.Needs.{needs}
 use Rattle.reading.proofs.refusal_of.Statement.{statement}
@@ -14,7 +14,7 @@ returns : tie.Need-returns
 returns c =
     let t = c .before .before .before .args .text .now in
     let e : isBookText t ≡ true = sym (c .before .is-book-text .ensures) ∙ c .if1 .taken in
-    rw (e, broken-refusal (textLines t) (c .before .before .before .pre e))
+    rw (e, broken-refusal InText (textLines t) (c .before .before .before .pre e))
 
 returns-2 : tie.Need-returns-2
 returns-2 c = rw (sym (c .before .is-book-text .ensures) ∙ c .if1 .left)

@@ -9,7 +9,7 @@ use lib.IntN.{ℤ}
 use lib.ListN.{length, take}
 use lib.Seq.{length-take-le}
 use Rattle.laws.proofs.Tests.{clash}
-use Rattle.notes.specs.Book.{isWhole}
+use Rattle.notes.specs.Book.{InText, isWhole}
 use Rattle.fields.proofs.Form.{no-book}
 use Rattle.text.proofs.Row.{filled-take}
 use Rattle.notes.proofs.Sizes.{too-long}
@@ -68,7 +68,7 @@ returns-3 : tie.Need-returns-3 Inv-loop μ-loop
 returns-3 c =
     let k = c .before .before .before .before .read-row in
     let g = good (c .before) in
-    walk-broken (c .before .before .before .before .before .before .before .loop .inv) (k .result) (k .ensures) (c .before .before .before .before .before .before .loop-test .taken) g (too-long (here (c .before)) (omega (arith, k .ensures .counted g, c .if3 .taken)))
+    walk-broken (c .before .before .before .before .before .before .before .loop .inv) (k .result) (k .ensures) (c .before .before .before .before .before .before .loop-test .taken) g (too-long InText (here (c .before)) (omega (arith, k .ensures .counted g, c .if3 .taken)))
 
 array-share-prefix-row : tie.Need-array-share-prefix-row Inv-loop μ-loop
 array-share-prefix-row c = omega (arith, c .before .before .before .before .read-row .ensures .same, c .before .before .before .before .before .before .before .loop .inv .places, c .if3 .left)
@@ -86,7 +86,7 @@ returns-4 : tie.Need-returns-4 Inv-loop μ-loop
 returns-4 c =
     let k = c .before .before .before .before .before .before .before .read-row in
     walk-broken (c .before .before .before .before .before .before .before .before .before .before .loop .inv) (k .result) (k .ensures) (c .before .before .before .before .before .before .before .before .before .loop-test .taken) (good (c .before .before .before .before))
-    (sym (ap isWhole (row-is (c .before .before .before))) ∙ sym (c .before .is-whole .ensures) ∙ not-true _ (c .if4 .taken))
+    (sym (ap (isWhole InText) (row-is (c .before .before .before))) ∙ sym (c .before .is-whole .ensures) ∙ not-true _ (c .if4 .taken))
 
 array-share-prefix-row-2 : tie.Need-array-share-prefix-row-2 Inv-loop μ-loop
 array-share-prefix-row-2 c = omega (arith, c .before .before .before .before .before .before .before .before .read-row .ensures .same, c .before .before .before .before .before .before .before .before .before .before .before .loop .inv .places, c .before .before .before .before .if3 .left)
@@ -101,8 +101,8 @@ note-line-requires c κs =
     (few-more (w .few) (omega (arith, w .within)), omega arith)
 
 -- the line is whole, and noted
-whole : (c : tie.Else4 Inv-loop μ-loop) → isWhole (here (c .before .before .before .before)) ≡ true
-whole c = sym (ap isWhole (row-is (c .before .before .before))) ∙ sym (c .before .is-whole .ensures) ∙ not-false _ (c .if4 .left)
+whole : (c : tie.Else4 Inv-loop μ-loop) → isWhole InText (here (c .before .before .before .before)) ≡ true
+whole c = sym (ap (isWhole InText) (row-is (c .before .before .before))) ∙ sym (c .before .is-whole .ensures) ∙ not-false _ (c .if4 .left)
 
 add-count : tie.Need-add-count Inv-loop μ-loop
 add-count c =

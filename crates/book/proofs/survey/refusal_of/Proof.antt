@@ -1,7 +1,7 @@
 -- The questions are asked in the definition's order.
 use mathlib.Core.Path.{sym, _∙_}
 use borrow.Author.Tests.{not-true, not-false}
-use Rattle.book.proofs.Counts.{four-three, four-four, four-five, four-none}
+use Rattle.book.proofs.Counts.{refusal-three, refusal-four, refusal-five, refusal-none}
 use borrow.Author.Needs.{needs}
 use Rattle.book.proofs.survey.refusal_of.Statement.{statement}
 use Rattle.book.proofs.survey.refusal_of.Tie as tie
@@ -10,19 +10,19 @@ and-also-requires : tie.Need-and-also-requires
 and-also-requires c κs = search needs
 
 returns : tie.Need-returns
-returns c = four-three (c .before .before .before .args .s) (sym (c .before .and-also .ensures) ∙ not-true _ (c .if1 .taken))
+returns c = refusal-three (c .before .before .before .args .s) (sym (c .before .and-also .ensures) ∙ not-true _ (c .if1 .taken))
 
 returns-2 : tie.Need-returns-2
-returns-2 c = four-four (c .before .before .before .before .before .args .s) (sym (c .before .before .before .and-also .ensures) ∙ not-false _ (c .before .before .if1 .left)) (not-true _ (c .if2 .taken))
+returns-2 c = refusal-four (c .before .before .before .before .before .args .s) (sym (c .before .before .before .and-also .ensures) ∙ not-false _ (c .before .before .if1 .left)) (not-true _ (c .if2 .taken))
 
 and-also-requires-2 : tie.Need-and-also-requires-2
 and-also-requires-2 c κs = search needs
 
 returns-3 : tie.Need-returns-3
-returns-3 c = four-five (c .before .before .before .before .before .before .before .before .before .args .s) (sym (c .before .before .before .before .before .before .before .and-also .ensures) ∙ not-false _ (c .before .before .before .before .before .before .if1 .left)) (not-false _ (c .before .before .before .before .if2 .left)) (sym (c .before .and-also2 .ensures) ∙ not-true _ (c .if3 .taken))
+returns-3 c = refusal-five (c .before .before .before .before .before .before .before .before .before .args .s) (sym (c .before .before .before .before .before .before .before .and-also .ensures) ∙ not-false _ (c .before .before .before .before .before .before .if1 .left)) (not-false _ (c .before .before .before .before .if2 .left)) (sym (c .before .and-also2 .ensures) ∙ not-true _ (c .if3 .taken))
 
 returns-4 : tie.Need-returns-4
-returns-4 c = four-none (c .before .before .before .before .before .before .before .before .before .args .s) (sym (c .before .before .before .before .before .before .before .and-also .ensures) ∙ not-false _ (c .before .before .before .before .before .before .if1 .left)) (not-false _ (c .before .before .before .before .if2 .left)) (sym (c .before .and-also2 .ensures) ∙ not-false _ (c .if3 .left))
+returns-4 c = refusal-none (c .before .before .before .before .before .before .before .before .before .args .s) (sym (c .before .before .before .before .before .before .before .and-also .ensures) ∙ not-false _ (c .before .before .before .before .before .before .if1 .left)) (not-false _ (c .before .before .before .before .if2 .left)) (sym (c .before .and-also2 .ensures) ∙ not-false _ (c .if3 .left))
 
 pub refusal-of-spec : {M : Type 1} → statement M
 refusal-of-spec =

@@ -1,5 +1,5 @@
 -- The survey of the list is that of its lines, and what they answer is what the list answers.
-use Rattle.notes.specs.Book.{loadedLines, bookRefusal, bookOf}
+use Rattle.notes.specs.Book.{InList, loadedLines, bookRefusal, bookOf}
 use Rattle.loading.proofs.Answers.{survey-loaded}
 use borrow.Author.Needs.{needs}
 use Rattle.loading.proofs.load.load.Statement.{statement}
@@ -19,7 +19,7 @@ unfolding bookRefusal bookOf
 returns c =
     let a = c .before .before .before .before .before .before .args in
     let k = c .before .before .before .before .survey-loaded in
-    c .before .settle .ensures (loadedLines (a .book .now)) (a .index .now) (survey-loaded (a .book .now) (a .index .now) _ (k .result) (k .ensures))
+    c .before .settle .ensures InList (loadedLines (a .book .now)) (a .index .now) (survey-loaded (a .book .now) (a .index .now) _ (k .result) (k .ensures))
 
 pub load-spec : {M : Type 1} → statement M
 load-spec = tie.close (tie.spec survey-loaded-requires settle-requires same-length returns)

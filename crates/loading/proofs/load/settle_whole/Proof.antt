@@ -1,6 +1,6 @@
 -- What questions 3 to 5 answer is the lines' refusal, and where they pass, what question 6 answers.
 use mathlib.Core.Path.{sym, ap, _∙_}
-use Rattle.loading.proofs.Answers.{four-so}
+use Rattle.loading.proofs.Answers.{judged-so}
 use Rattle.loading.specs.Loaded.{refusalOf}
 use borrow.Author.Needs.{needs}
 use Rattle.loading.proofs.load.settle_whole.Statement.{statement}
@@ -25,7 +25,7 @@ returns : tie.Need-returns
 returns c = search needs
 
 returns-2 : tie.Need-returns-2
-returns-2 c = λ lines index₀ w. four-so w (c .before .refusal .given .0 .0) (sym (ap refusalOf (c .before .refusal .given .1)) ∙ c .before .before .before .judge .ensures)
+returns-2 c = λ form lines index₀ w. judged-so w (c .before .refusal .given .0 .0) (sym (ap refusalOf (c .before .refusal .given .1)) ∙ c .before .before .before .judge .ensures)
 
 pub settle-whole-spec : {M : Type 1} → statement M
 settle-whole-spec =

@@ -1,7 +1,7 @@
 -- The two comparisons are the definition's, on the number that the code reads back of its bits.
 use Rattle.laws.proofs.Linear.{reads}
-use Rattle.lines.proofs.is_word_or_start.Statement.{statement}
-use Rattle.lines.proofs.is_word_or_start.Tie as tie
+use Rattle.lines.proofs.is_history_word.Statement.{statement}
+use Rattle.lines.proofs.is_history_word.Tie as tie
 
 returns : tie.Need-returns
 returns c = let f = c .before .fits .x in simp (reads, f, simp (reads, f) at (c .if1 .taken))
@@ -9,5 +9,5 @@ returns c = let f = c .before .fits .x in simp (reads, f, simp (reads, f) at (c 
 returns-2 : tie.Need-returns-2
 returns-2 c = let f = c .before .fits .x in simp (reads, f, simp (reads, f) at (c .if1 .left))
 
-pub is-word-or-start-spec : {M : Type 1} → statement M
-is-word-or-start-spec = tie.close (tie.spec returns returns-2)
+pub is-history-word-spec : {M : Type 1} → statement M
+is-history-word-spec = tie.close (tie.spec returns returns-2)
