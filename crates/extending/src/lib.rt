@@ -122,8 +122,8 @@ fn extend_at(
     job: Job,
     spot: Spot,
 ) -> Grown
-    requires { ⌜ Searchable (now book) (now direction) (now index) (now options) (job .task) ⌝ }
     requires { ⌜ SpotOf (now book) (now direction) job spot × (jumpFrom (spot .source .place .state .r) (spot .first) ≤ job .task .limit) ⌝ }
+    requires { ⌜ Searchable (now book) (now direction) (now index) (now options) (job .task) ⌝ }
     requires { ⌜ Growing (bookOf (now book)) (now direction) (job .width) (spot .source .place .size) (spot .source .at) (startAt (now options) (spot .first - 1)) (now store) count ⌝ }
     ensures { λ r. ⌜ Grew (bookOf (now (book .entry))) (now (direction .entry)) (job .width) (spot .source .place .size) (spot .source .at) (startAt (now (options .entry)) (spot .first)) (now (store .exit)) r ⌝ }
 {

@@ -26,7 +26,7 @@ abbrev μ-loop : tie.MeasureT-loop
 
 -- src/lib.rt:140:9
 start-at-requires : tie.Need-start-at-requires Inv-loop μ-loop
-start-at-requires c κs = let s = c .before .before in spot-starts (s .pre .0) (s .pre .1 .0 .0)
+start-at-requires c κs = let s = c .before .before in spot-starts (s .pre .1 .0) (s .pre .0 .0)
 
 -- src/lib.rt:142:44
 sub-start-at : tie.Need-sub-start-at Inv-loop μ-loop
@@ -34,7 +34,7 @@ sub-start-at c = search needs
 
 -- src/lib.rt:142:9
 start-at-requires-2 : tie.Need-start-at-requires-2 Inv-loop μ-loop
-start-at-requires-2 c κs = let s = c .before .before .before .before in let h = spot-starts (s .pre .0) (s .pre .1 .0 .0) in (omega arith, h .1)
+start-at-requires-2 c κs = let s = c .before .before .before .before in let h = spot-starts (s .pre .1 .0) (s .pre .0 .0) in (omega arith, h .1)
 
 -- src/lib.rt:143:5
 loop-holds : tie.Need-loop-holds Inv-loop μ-loop
@@ -42,12 +42,12 @@ loop-holds c =
     let s = c .before .before .before .before .before in
     let f = c .start-at2 .ensures in
     let t = c .before .before .start-at .ensures in
-    let r = spot-rises (s .pre .0) (s .pre .1 .0 .0) in
+    let r = spot-rises (s .pre .1 .0) (s .pre .0 .0) in
     (omega arith, (omega arith, (refl, rw (sym f) at (s .pre .1 .1))))
 
 -- src/lib.rt:144:21
 option-at-requires : tie.Need-option-at-requires Inv-loop μ-loop
-option-at-requires c κs = let s = c .before .before .before .before .before .before .before in let t = c .before .before .before .before .start-at .ensures in spot-option (s .pre .0) (s .pre .1 .0 .0) _ (let h = c .loop-test .taken in omega arith)
+option-at-requires c κs = let s = c .before .before .before .before .before .before .before in let t = c .before .before .before .before .start-at .ensures in spot-option (s .pre .1 .0) (s .pre .0 .0) _ (let h = c .loop-test .taken in omega arith)
 
 -- src/lib.rt:144:21
 cast-entry : tie.Need-cast-entry Inv-loop μ-loop
@@ -60,7 +60,7 @@ extend-option-requires c κs =
     let l = c .before .before .before .loop in
     let t = c .before .before .before .before .before .before .start-at .ensures in
     let e = c .before .option-at .ensures in
-    (rw (sym e) at (spot-turn (s .pre .0) (s .pre .1 .0 .0) (s .pre .1 .0 .1) (l .o) (l .inv .0) (let h = c .before .before .loop-test .taken in omega arith)), l .inv .1 .1 .1)
+    (rw (sym e) at (spot-turn (s .pre .1 .0) (s .pre .0 .0) (s .pre .0 .1) (l .o) (l .inv .0) (let h = c .before .before .loop-test .taken in omega arith)), l .inv .1 .1 .1)
 
 -- src/lib.rt:150:23
 enum-known-more : tie.Need-enum-known-more Inv-loop μ-loop

@@ -27,7 +27,7 @@ returns-2 c = let b = c .before .before .before .before .before .before .before 
 
 -- src/lib.rt:195:5
 extend-at-requires : tie.Need-extend-at-requires
-extend-at-requires c κs = let b = c .before .before .before .before .before .before .before .before .before in (b .pre .0, ((b .pre .1 .0, let h = c .before .if2 .left in let e = c .before .before .before .jump .ensures in omega arith), b .pre .1 .1))
+extend-at-requires c κs = let b = c .before .before .before .before .before .before .before .before .before in ((b .pre .1 .0, let h = c .before .if2 .left in let e = c .before .before .before .jump .ensures in omega arith), (b .pre .0, b .pre .1 .1))
 
 -- src/lib.rt:171:1
 same-length : tie.Need-same-length
