@@ -14,6 +14,7 @@ use Rattle.laws.specs.Integers.{Within, natOf}
 use Rattle.laws.specs.Lists.{all, keep, count}
 use Rattle.laws.proofs.Lists.{all-at, part-part, dropLast-length, dropLast-getD, keep-length}
 use Rattle.laws.proofs.Tests.{by-test, both}
+use Rattle.notes.specs.Bounds.{scoreMost}
 use Rattle.notes.specs.Book.{InList, Entry, numberAt, naturalAt, isP, isPhraseWord, isWhole, isInRange, isNotTooLong, wordsAt, entryOf, bookOf, bookOfLines, bookRefusal, loadedLines}
 use Rattle.notes.specs.Derivation.{noEntry}
 use Rattle.notes.proofs.Ranges.{lines-passed, PLine, p-line}
@@ -111,7 +112,7 @@ module _ (loaded : List ℤ) (at size : ℕ) (l : LineAt loaded at size) (p : is
         g-is = ap (λ (e : Entry). e .g) line-there;
         words = word-at;
         g-within = let q : 3 + naturalAt (take size (drop at loaded)) 1 + naturalAt (take size (drop at loaded)) 2 ≡ 3 + naturalAt loaded (at + 1) + naturalAt loaded (at + 2) = omega (arith, a-is, b-is) in
-            subst (Within 1_000_000) (ap (numberAt (take size (drop at loaded))) q ∙ line-number loaded at size (3 + naturalAt loaded (at + 1) + naturalAt loaded (at + 2)) (omega (arith, size-is))) (facts .score-within);
+            subst (Within scoreMost) (ap (numberAt (take size (drop at loaded))) q ∙ line-number loaded at size (3 + naturalAt loaded (at + 1) + naturalAt loaded (at + 2)) (omega (arith, size-is))) (facts .score-within);
       }
 
 -- ---- one place that is noted

@@ -6,6 +6,7 @@ use mathlib.Core.List.{List}
 use lib.IntN.{ℤ, pos}
 use lib.ListN.{length, getD, set, drop}
 use Rattle.laws.specs.Integers.{Within}
+use Rattle.notes.specs.Bounds.{scoreMost}
 use Rattle.notes.specs.Book.{Entry, numberAt, naturalAt, phrasesMost, isP, isPhraseWord, wordsAt, entryOf, bookOf}
 use Rattle.notes.specs.Derivation.{noEntry}
 use Rattle.ngrams.specs.Parts.{recordsEnd, naturalIn, KeptBelow}
@@ -22,7 +23,7 @@ pub record EntryAt (loaded : List ℤ) (at : ℕ) (entry : Entry) : Type 0 where
   pub target-is : entry .target ≡ wordsAt loaded (at + (3 + naturalAt loaded (at + 1))) (naturalAt loaded (at + 2))
   pub g-is : entry .g ≡ numberAt loaded (at + (3 + naturalAt loaded (at + 1) + naturalAt loaded (at + 2)))
   pub words : (j : ℕ) → j < naturalAt loaded (at + 1) + naturalAt loaded (at + 2) → isPhraseWord (numberAt loaded (at + (3 + j))) ≡ true
-  pub g-within : Within 1_000_000 (numberAt loaded (at + (3 + naturalAt loaded (at + 1) + naturalAt loaded (at + 2))))
+  pub g-within : Within scoreMost (numberAt loaded (at + (3 + naturalAt loaded (at + 1) + naturalAt loaded (at + 2))))
 
 -- ---- the part of the one list behind the records: where each entry stands in the loaded book
 

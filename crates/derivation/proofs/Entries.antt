@@ -11,6 +11,7 @@ use lib.Seq.{getD-take, getD-drop, length-take-le}
 use Rattle.laws.specs.Integers.{Within, natOf}
 use Rattle.laws.proofs.Tests.{both}
 use Rattle.laws.proofs.Linear.{signed}
+use Rattle.notes.specs.Bounds.{wordMost, scoreMost}
 use Rattle.notes.specs.Book.{Entry, numberAt, naturalAt, isPhraseWord, wordsAt}
 use Rattle.book.specs.Entries.{EntryAt}
 use Rattle.derivation.specs.Model.{WordsAt, PhraseOf}
@@ -19,7 +20,7 @@ word-pos : (z : ℤ) → isPhraseWord z ≡ true → z ≡ pos (natOf z)
 word-pos (pos n) e = refl
 word-pos (negsuc n) e = absurd (false≢true (both (leZ (pos 1) (negsuc n)) (leZ (negsuc n) (pos 65_535)) e .0))
 
-word-most : (z : ℤ) → isPhraseWord z ≡ true → natOf z ≤ 65_535
+word-most : (z : ℤ) → isPhraseWord z ≡ true → natOf z ≤ wordMost
 word-most (pos n) e = let h = both (leZ (pos 1) (pos n)) (leZ (pos n) (pos 65_535)) e .1 in omega (arith, signed)
 word-most (negsuc n) e = omega arith
 
@@ -66,5 +67,5 @@ module _ {loaded : List ℤ} {at : ℕ} {e : Entry} (h : EntryAt loaded at e) wh
         source-at = rw p source-stands;
         target-at = rw (p, q) target-stands;
         g-is = r ∙ rw (p, q) (sym (h .g-is));
-        g-within = subst (Within 1_000_000) (sym (h .g-is)) (h .g-within);
+        g-within = subst (Within scoreMost) (sym (h .g-is)) (h .g-within);
       }

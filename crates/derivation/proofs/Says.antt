@@ -10,6 +10,7 @@ use Rattle.laws.specs.Integers.{Within}
 use Rattle.laws.proofs.Bounds.{within-+, within-mono}
 use Rattle.laws.proofs.Lists.{drop-next}
 use Rattle.coverage.specs.Runs.{maskOf}
+use Rattle.notes.specs.Bounds.{wordMost, scoreMost}
 use Rattle.notes.specs.Book.{Entry}
 use Rattle.notes.specs.declared.State.{State}
 use Rattle.derivation.specs.Model.{modelScore, silent, sayOne, sayAll, wordIn, WordsAt}
@@ -22,7 +23,7 @@ use Rattle.derivation.specs.declared.Said.{Said}
 pub word-is : {loaded : List ℤ} {from many : ℕ} {words : List ℕ} → WordsAt loaded from many words → (j : ℕ) → j < many → wordIn loaded (from + j) ≡ getD words j 0
 unfolding wordIn
 word-is {loaded} {from} {many} {words} w j h =
-    rw (w .word-at j h) (let k : getD words j 0 ≤ 65535 = w .word-to j h in mod-eq-of-lt (omega arith))
+    rw (w .word-at j h) (let k : getD words j 0 ≤ wordMost = w .word-to j h in mod-eq-of-lt (omega arith))
 
 module _ (index : List ℤ) (t : Task) where
   -- one word more of the row
@@ -34,7 +35,7 @@ module _ (index : List ℤ) (t : Task) where
   unfolding sayAll
   say-end s words j h = ap (sayAll index t s) (drop-of-length-le words {i = j} h)
 
-  pub say-within : ((v w y : ℕ) → Within 1000000 (modelScore index t v w y)) → (s : Said) (y j : ℕ) → Within (j * 1000000) (s .score) → Within ((j + 1) * 1000000) (sayOne index t s y .score)
+  pub say-within : ((v w y : ℕ) → Within scoreMost (modelScore index t v w y)) → (s : Said) (y j : ℕ) → Within (j * scoreMost) (s .score) → Within ((j + 1) * scoreMost) (sayOne index t s y .score)
   unfolding sayOne
   say-within each s y j h = within-mono (omega arith) (within-+ h (each (s .word1) (s .word2) y))
 

@@ -7,6 +7,7 @@ use lib.IntN.{ℤ, pos, _+ℤ_}
 use lib.ListN.{length, getD}
 use Rattle.laws.specs.Integers.{Within, natOf}
 use Rattle.laws.specs.Lists.{noneTwice}
+use Rattle.notes.specs.Bounds.{wordMost, wordSpan, scoreMost}
 use Rattle.notes.specs.Book.{Entry}
 use Rattle.notes.specs.Derivation.{listedScore}
 use Rattle.ngrams.specs.Grams.{keysIn, triplesIn, sameKey, Indexed}
@@ -24,7 +25,7 @@ modelScore index t v w y = listedScore v w y (t .unseen) (triplesIn index (t .tr
 pub record Model (index : List ℤ) (t : Task) : Type 0 where
   pub indexed : Indexed index (t .triples)
   pub different : noneTwice sameKey (keysIn index (t .triples)) ≡ true
-  pub scores-within : (v w y : ℕ) → Within 1_000_000 (modelScore index t v w y)
+  pub scores-within : (v w y : ℕ) → Within scoreMost (modelScore index t v w y)
 
 -- nothing said yet, after two words
 abbrev pub silent : ℕ → ℕ → Said
@@ -42,7 +43,7 @@ sayAll index t s (y ∷ ys) = sayAll index t (sayOne index t s y) ys
 
 -- the number at a place of the list as a word
 unfoldable pub wordIn : List ℤ → ℕ → ℕ
-wordIn loaded k = natOf (getD loaded k (pos 0)) % 65_536
+wordIn loaded k = natOf (getD loaded k (pos 0)) % wordSpan
 
 -- the words stand in the list from a place on
 pub record WordsAt (loaded : List ℤ) (from many : ℕ) (words : List ℕ) : Type 0 where
@@ -51,14 +52,14 @@ pub record WordsAt (loaded : List ℤ) (from many : ℕ) (words : List ℕ) : Ty
   pub few : many ≤ 8
   pub some : 1 ≤ many
   pub word-at : (j : ℕ) → j < many → getD loaded (from + j) (pos 0) ≡ pos (getD words j 0)
-  pub word-to : (j : ℕ) → j < many → getD words j 0 ≤ 65_535
+  pub word-to : (j : ℕ) → j < many → getD words j 0 ≤ wordMost
 
 -- the places and the score are those of the entry
 pub record PhraseOf (loaded : List ℤ) (e : Entry) (p : Phrase) : Type 0 where
   pub source-at : WordsAt loaded (p .source) (p .long) (e .source)
   pub target-at : WordsAt loaded (p .target) (p .count) (e .target)
   pub g-is : p .g ≡ e .g
-  pub g-within : Within 1_000_000 (e .g)
+  pub g-within : Within scoreMost (e .g)
 
 -- they are those of some entry
 pub record Phrased (loaded : List ℤ) (p : Phrase) : Type 0 where

@@ -4,6 +4,7 @@ use mathlib.Core.List.{List}
 use lib.IntN.{ℤ, pos, _+ℤ_, _*ℤ_}
 use Rattle.laws.specs.Integers.{Within}
 use Rattle.coverage.specs.Runs.{maskOf}
+use Rattle.notes.specs.Bounds.{penaltyMost}
 use Rattle.notes.specs.Book.{Entry}
 use Rattle.notes.specs.State.{scoreBound}
 use Rattle.notes.specs.declared.State.{State}
@@ -38,5 +39,5 @@ pub record CanNext (t : Task) (first last : ℕ) (s : State) : Type 0 where
   pub last-to : last ≤ 32
   pub room : s .covered + maskOf first last < 2 ^ 32
   pub near : jumpFrom (s .r) first ≤ 32
-  pub eta-within : Within 10_000 (t .eta)
+  pub eta-within : Within penaltyMost (t .eta)
   pub score-within : Within scoreBound (s .score)

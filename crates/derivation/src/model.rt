@@ -7,13 +7,14 @@ ghost use mathlib.Core.Path.{_≡_};
 ghost use Prim.Native.Nat.{_+_, _<_};
 ghost use lib.ListN.{length};
 ghost use Rattle.laws.specs.Integers.{Within};
+ghost use Rattle.notes.specs.Bounds.{saidBound};
 ghost use Rattle.notes.specs.Book.{Entry};
 ghost use Rattle.derivation.specs.Model.{Model, wordIn, silent, sayOne, sayAll, PhraseOf, Phrased};
 
 // One target word more.
 fn say_word(index: &[i32], t: Task, s: Said, y: u16) -> Said
     requires { ⌜ Model (now index) t ⌝ }
-    requires { ⌜ Within 1000000000 (s .score) ⌝ }
+    requires { ⌜ Within saidBound (s .score) ⌝ }
     ensures { λ r. ⌜ r ≡ sayOne (now (index .entry)) t s y ⌝ }
 {
     let old = s.score;
@@ -47,7 +48,7 @@ pub fn say(book: &[i32], index: &[i32], t: Task, p: Phrase, word1: u16, word2: u
     requires { ⌜ Model (now index) t ⌝ }
     requires { ⌜ Phrased (now book) p ⌝ }
     ensures { λ r. ⌜ ((e : Entry) → PhraseOf (now (book .entry)) e p → r ≡ sayAll (now (index .entry)) t (silent word1 word2) (e .target)) ⌝ }
-    ensures { λ r. ⌜ Within 8000000 (r .score) ⌝ }
+    ensures { λ r. ⌜ Within saidBound (r .score) ⌝ }
 {
     let mut s = Said {
         score: 0,

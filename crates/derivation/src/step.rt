@@ -7,6 +7,8 @@ use notes::State;
 ghost use mathlib.Core.Path.{_≡_};
 ghost use Prim.Native.Nat.{_+_, _*_, _^_, _≤_, _<_};
 ghost use Rattle.laws.specs.Integers.{Within};
+ghost use Rattle.notes.specs.State.{gainBound};
+ghost use Rattle.notes.specs.Bounds.{scoreMost, penaltyMost, saidBound};
 ghost use Rattle.notes.specs.Book.{Entry};
 ghost use Rattle.derivation.specs.Model.{Model, PhraseOf, Phrased};
 ghost use Rattle.derivation.specs.Next.{jumpFrom, gainBy, nextState, CanNext};
@@ -26,8 +28,8 @@ pub fn jump(r: usize, first: usize) -> usize
 
 // What a step adds to a score: the entry's, the penalty of its jump, and what its target words say.
 fn gain(t: Task, p: Phrase, far: usize, said: Said) -> i64
-    requires { ⌜ (Within 10000 (t .eta)) × ((Within 1000000 (p .g)) × ((far ≤ 32) × (Within 8000000 (said .score)))) ⌝ }
-    ensures { λ r. ⌜ (r ≡ gainBy t p far said) × Within 9320000 r ⌝ }
+    requires { ⌜ (Within penaltyMost (t .eta)) × ((Within scoreMost (p .g)) × ((far ≤ 32) × (Within saidBound (said .score)))) ⌝ }
+    ensures { λ r. ⌜ (r ≡ gainBy t p far said) × Within gainBound r ⌝ }
 {
     let g = p.g;
     let eta = t.eta;

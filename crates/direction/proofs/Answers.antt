@@ -10,7 +10,7 @@ use lib.ListN.{length, length-map}
 use Rattle.laws.specs.Integers.{natOf}
 use Rattle.laws.specs.Lists.{all}
 use Rattle.notes.specs.Questions.{within}
-use Rattle.notes.specs.Book.{isWord}
+use Rattle.notes.specs.Direction.{isDirectionWord}
 use Rattle.notes.specs.Direction.{isDirectionText, directionNumbers, numbersRefusal, readDirectionRefusal, directionOf}
 use Rattle.notes.specs.Reply.{Reply, refused, done, writtenOver, readDirection, readDirectionList}
 
@@ -22,11 +22,11 @@ module _ (numbers : List ℤ) where
   no-count e = rw e
 
   module _ (count : within 1 32 (length numbers) ≡ true) where
-    pub no-words : all isWord numbers ≡ false → numbersRefusal numbers ≡ 10
+    pub no-words : all isDirectionWord numbers ≡ false → numbersRefusal numbers ≡ 10
     unfolding numbersRefusal
     no-words e = rw (count, e)
 
-    pub in-range : all isWord numbers ≡ true → numbersRefusal numbers ≡ 0
+    pub in-range : all isDirectionWord numbers ≡ true → numbersRefusal numbers ≡ 0
     unfolding numbersRefusal
     in-range e = rw (count, e)
 

@@ -15,9 +15,9 @@ use Rattle.laws.specs.Lists.{all}
 use Rattle.laws.proofs.Tests.{both}
 use Rattle.laws.proofs.Linear.{signed, num}
 use Rattle.laws.proofs.Lists.{drop-next, all-drop}
-use Rattle.notes.specs.Book.{isWord}
+use Rattle.notes.specs.Direction.{isDirectionWord}
 
-module _ (z : ℤ) (w : isWord z ≡ true) where
+module _ (z : ℤ) (w : isDirectionWord z ≡ true) where
   pub word-fits : T (nonNeg z) × Fits w16 (natAbs z)
   word-fits =
       let h = both (leZ (pos 1) z) (leZ z (pos 65_535)) w in

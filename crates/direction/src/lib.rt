@@ -11,8 +11,7 @@ ghost use lib.ListN.{length};
 ghost use Rattle.laws.specs.Integers.{natOf};
 ghost use Rattle.laws.specs.Lists.{all};
 ghost use Rattle.notes.specs.Questions.{within};
-ghost use Rattle.notes.specs.Book.{isWord};
-ghost use Rattle.notes.specs.Direction.{directionRefusal};
+ghost use Rattle.notes.specs.Direction.{isDirectionWord, directionRefusal};
 ghost use Rattle.notes.specs.Reply.{readReply, checkedReply, reply, writtenOver, readDirection, readDirectionList};
 
 // Question 9, of how many words there are.
@@ -23,19 +22,19 @@ fn is_count(n: usize) -> bool
 }
 
 // Question 10, of one number.
-fn is_word(z: i32) -> bool
-    ensures { λ r. ⌜ r ≡ isWord z ⌝ }
+fn is_direction_word(z: i32) -> bool
+    ensures { λ r. ⌜ r ≡ isDirectionWord z ⌝ }
 {
-    1 <= z && z <= 65535
+    lines::is_word(z)
 }
 
 // Question 10, of the numbers that a text gave.
 fn are_words(row: &[i32]) -> bool
-    ensures { λ r. ⌜ r ≡ all isWord (now (row .entry)) ⌝ }
+    ensures { λ r. ⌜ r ≡ all isDirectionWord (now (row .entry)) ⌝ }
 {
     let mut i: usize = 0;
     while i < row.len() {
-        if !is_word(row[i]) {
+        if !is_direction_word(row[i]) {
             return false;
         }
         i += 1;
@@ -45,11 +44,11 @@ fn are_words(row: &[i32]) -> bool
 
 // Question 10, of a direction as numbers.
 fn all_words(direction: &[u16]) -> bool
-    ensures { λ r. ⌜ r ≡ all isWord (map pos (now (direction .entry))) ⌝ }
+    ensures { λ r. ⌜ r ≡ all isDirectionWord (map pos (now (direction .entry))) ⌝ }
 {
     let mut i: usize = 0;
     while i < direction.len() {
-        if !is_word(direction[i] as i32) {
+        if !is_direction_word(direction[i] as i32) {
             return false;
         }
         i += 1;
@@ -59,7 +58,7 @@ fn all_words(direction: &[u16]) -> bool
 
 // Writes words at the beginning of a direction that has room for them.
 fn write_words(row: &[i32], direction: &mut [u16])
-    requires { ⌜ all isWord (now row) ≡ true ⌝ }
+    requires { ⌜ all isDirectionWord (now row) ≡ true ⌝ }
     requires { ⌜ length (now row) ≤ length (now direction) ⌝ }
     ensures { λ _. ⌜ now (direction .exit) ≡ writtenOver (map natOf (now (row .entry))) (now (direction .entry)) ⌝ }
 {

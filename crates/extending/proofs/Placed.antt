@@ -13,6 +13,7 @@ use Rattle.laws.specs.Lists.{count}
 use Rattle.laws.proofs.Bits.{bits-length}
 use Rattle.coverage.specs.Runs.{maskOf}
 use Rattle.coverage.proofs.Laws.{mask-fits, cover-ones}
+use Rattle.notes.specs.Bounds.{penaltyMost}
 use Rattle.notes.specs.Book.{Book, bookOf}
 use Rattle.notes.specs.Direction.{wordCount}
 use Rattle.notes.specs.Derivation.{entryAt, fits}
@@ -85,7 +86,7 @@ module _ {loaded : List ℤ} {direction : List ℕ} {index : List ℤ} {t : Task
                 last-to = (let m = last-to in omega arith);
                 room = omega arith;
                 near = omega arith;
-                eta-within = subst (Within 10_000) (sym (R .eta-is)) (l .eta-within);
+                eta-within = subst (Within penaltyMost) (sym (R .eta-is)) (l .eta-within);
                 score-within = within;
               });
           size-small = omega arith;

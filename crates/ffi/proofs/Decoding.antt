@@ -5,7 +5,7 @@ use mathlib.Core.Path.{_≡_, sym, ap, subst}
 use mathlib.Core.List.{List}
 use lib.IntN.{ℤ}
 use lib.ListN.{length, drop, length-append, length-drop}
-use Rattle.notes.specs.Reply.{Lent, Outcome, decode, writtenOver, decodedReply, Decodes}
+use Rattle.notes.specs.Reply.{Lent, Outcome, outcomeOf, decode, writtenOver, filledWith, decodedReply, Decodes}
 use Rattle.notes.specs.declared.Answer.{Answer}
 use Rattle.notes.specs.declared.Decoded.{Decoded}
 use Rattle.notes.specs.declared.Decoded.the-variants.{Done}
@@ -13,7 +13,6 @@ use Rattle.notes.specs.declared.Step.{Step}
 use Rattle.notes.proofs.Demands.{answered}
 use Rattle.records.specs.Plain.{stepsOf}
 use Rattle.records.proofs.Laws.{count-steps}
-use Rattle.text.specs.Walk.{filledWith}
 use Rattle.decoder.specs.Core.{CoreDecodes}
 use Rattle.answer.specs.declared.Core.{Core}
 use Rattle.lists.specs.Report.{Countable}
@@ -47,7 +46,7 @@ module _ (loaded : List ℤ) (direction : List ℕ) (width : ℤ) (steps₀ step
         let d = subst (λ (r : Decoded). Decodes loaded direction width (recordsIn steps₀) (writtenOver (stepsOf (core .plain)) (recordsIn steps₀)) words₀ words₁ store₀ store₁ r) e into in
         let l = d .lists-are in
         let lent : Lent = record { steps = length (recordsIn steps₀); words = length words₀; store = length store₀ } in
-        let o : Outcome = record { score = a .score; states = a .states } in
+        let o : Outcome = outcomeOf a in
         let f = answered loaded direction width lent o (sym (d .reply-is)) in
         let steps-to = over-le (l .steps) (recordsIn steps₀) in
         let steps-is = ap length (l .steps-after) in

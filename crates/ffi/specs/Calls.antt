@@ -4,10 +4,9 @@ use mathlib.Core.Path.{_≡_}
 use mathlib.Core.List.{List, [], _∷_}
 use lib.IntN.{ℤ, pos, negℤ}
 use lib.ListN.{length, drop}
-use Rattle.notes.specs.Reply.{Reply, refused, done, decodedReply, Decodes}
+use Rattle.notes.specs.Reply.{Reply, refused, done, filledWith, countsOf, decodedReply, Decodes}
 use Rattle.notes.specs.declared.Decoded.{Decoded}
 use Rattle.notes.specs.declared.Decoded.the-variants.{Done, Refused}
-use Rattle.text.specs.Walk.{filledWith}
 use Rattle.lists.specs.Steps.{recordsIn}
 
 -- "numbers written, or minus the refusal"
@@ -27,7 +26,7 @@ scoreReport (refused k) = []
 
 -- what a decode reports: "score, steps, words, states"; "nothing on a refusal"
 abbrev pub decodeReport : Decoded → List ℤ
-decodeReport (Done a) = a .score ∷ pos (a .steps) ∷ pos (a .words) ∷ pos (a .states) ∷ []
+decodeReport (Done a) = countsOf a
 decodeReport (Refused refusal) = []
 
 -- a decode into plain numbers is one into the step records that they are: before (₀) and after (₁). The numbers left over are as

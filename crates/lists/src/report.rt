@@ -2,9 +2,8 @@
 use notes::Answer;
 ghost use mathlib.Core.Path.{_≡_};
 ghost use mathlib.Core.List.{_∷_, []};
-ghost use lib.IntN.{pos};
 ghost use lib.ListN.{set};
-ghost use Rattle.text.specs.Walk.{filledWith};
+ghost use Rattle.notes.specs.Reply.{filledWith, countsOf};
 ghost use Rattle.lists.specs.Report.{Countable};
 
 // Puts a value at a place of a list, if the list has that place.
@@ -26,7 +25,7 @@ pub fn put_score(report: &mut [i64], score: i64)
 // Reports a decode: its score, and how many steps, words and states there are.
 pub fn put_answer(report: &mut [i64], a: Answer)
     requires { ⌜ Countable a ⌝ }
-    ensures { λ _. ⌜ now (report .exit) ≡ filledWith (a .score ∷ pos (a .steps) ∷ pos (a .words) ∷ pos (a .states) ∷ []) (now (report .entry)) ⌝ }
+    ensures { λ _. ⌜ now (report .exit) ≡ filledWith (countsOf a) (now (report .entry)) ⌝ }
 {
     put(report, 0, a.score);
     put(report, 1, a.steps as i64);

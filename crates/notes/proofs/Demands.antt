@@ -16,12 +16,12 @@ use Rattle.laws.specs.Lists.{all, isEmpty}
 use Rattle.laws.proofs.Tests.{by-test, both, is-false, clash}
 use Rattle.laws.proofs.Bounds.{within-mono}
 use Rattle.notes.specs.Questions.{_unless_, _orelse_, within}
-use Rattle.notes.specs.Book.{Form, InList, Book, bookOf, bookRefusal, linesRefusal, loadedLines, isWhole, isOneBFirst, isInRange, isNotTooLong, isNoTripleTwice, isWord}
-use Rattle.notes.specs.Direction.{wordCount, directionRefusal, numbersRefusal}
+use Rattle.notes.specs.Book.{Form, InList, Book, bookOf, bookRefusal, linesRefusal, loadedLines, isWhole, isOneBFirst, isInRange, isNotTooLong, isNoTripleTwice}
+use Rattle.notes.specs.Direction.{wordCount, isDirectionWord, directionRefusal, numbersRefusal}
 use Rattle.notes.specs.Derivation.{IsDerivation, fits, jump, isValid, targetWords, scoreOf}
-use Rattle.notes.specs.State.{Key, Hyp, start, isFree, nextKey, scoreBound}
+use Rattle.notes.specs.State.{Key, Hyp, start, isFree, nextKey, scoreBound, spreadBound}
 use Rattle.notes.specs.Search.{isOff, entered, lastSet, answer}
-use Rattle.notes.specs.Reply.{refused, done, reply, Lent, Outcome, stepsRefusal, proposalRefusal, scoreProposal, beforeSearch, afterSearch, decodeRefusal, answerScore, decode}
+use Rattle.notes.specs.Reply.{refused, done, reply, Lent, Outcome, stepsRefusal, proposalRefusal, scoreProposal, beforeSearch, afterSearch, decodeRefusal, answerScore, searchOutcome, decode}
 use Rattle.notes.specs.declared.Step.{Step}
 use Rattle.notes.proofs.Chains.{first-passes, rest-passes, test-passes, skip, chain-to, test-to, done-passes, done-is, refused-is, reply-refused}
 use Rattle.notes.proofs.Valid.{proposal-valid}
@@ -42,7 +42,7 @@ lines-to form lines =
 -- no question of a direction has a number above 10
 numbers-at-most : (numbers : List ℤ) → numbersRefusal numbers ≤ 10
 unfolding numbersRefusal
-numbers-at-most numbers = chain-to _ _ 10 (test-to 9 (within 1 32 (length numbers)) 10 (omega arith)) (test-to 10 (all isWord numbers) 10 (omega arith))
+numbers-at-most numbers = chain-to _ _ 10 (test-to 9 (within 1 32 (length numbers)) 10 (omega arith)) (test-to 10 (all isDirectionWord numbers) 10 (omega arith))
 
 -- those of proposed steps have 16 or more
 steps-from : (book : Book) (direction : List ℕ) (k : Key) (steps : List Step) → (stepsRefusal book direction k steps ≡ 0) ⊎ (16 ≤ stepsRefusal book direction k steps)
@@ -374,7 +374,7 @@ module _ (loaded : List ℤ) (direction : List ℕ) where
       two false m h = omega arith
 
   -- "a width of 596,480,000, which, but for 15 in place of 14, answers as −1 does": it, and every larger one
-  pub wide-width : (β : ℕ) (lent : Lent) → 2 * scoreBound ≤ β
+  pub wide-width : (β : ℕ) (lent : Lent) → spreadBound ≤ β
       → (decode loaded direction (pos β) lent ≡ decode loaded direction (negsuc 0) lent)
       ⊎ ((decode loaded direction (pos β) lent ≡ refused 15) × (decode loaded direction (negsuc 0) lent ≡ refused 14))
   unfolding decode decodeRefusal beforeSearch afterSearch
@@ -382,8 +382,7 @@ module _ (loaded : List ℤ) (direction : List ℕ) where
       wide-by (beforeSearch loaded direction (negsuc 0) lent)
       (leb (length (entered book direction (pos β))) (lent .store / 8)) (leb (length (entered book direction (negsuc 0))) (lent .store / 8))
       (isEmpty (lastSet book direction (pos β))) (isEmpty (lastSet book direction (negsuc 0)))
-      (record { score = answerScore (answer book direction (pos β)); states = length (entered book direction (pos β)) })
-      (record { score = answerScore (answer book direction (negsuc 0)); states = length (entered book direction (negsuc 0)) })
+      (searchOutcome book direction (pos β)) (searchOutcome book direction (negsuc 0))
       (λ b.
       let R = loaded-ranged loaded (first-passes (bookRefusal loaded) _ b) in
       let n = direction-to direction (first-passes (directionRefusal direction) _ (rest-passes (bookRefusal loaded) _ b)) in

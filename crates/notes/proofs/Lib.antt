@@ -2,6 +2,7 @@ pub mod Computing
 pub mod Drawers
 pub mod Refusals
 pub mod Chains
+pub mod Filled
 pub mod Valid
 pub mod Scores
 pub mod Steps

@@ -16,6 +16,7 @@ use Rattle.laws.proofs.Linear.{signed, num}
 use Rattle.laws.proofs.Order.{yes-≡}
 use Rattle.laws.proofs.Lists.{all-mem, keep-mem, getD-mem}
 use Rattle.notes.specs.Questions.{_unless_, withinℤ}
+use Rattle.notes.specs.Bounds.{scoreMost, penaltyMost}
 use Rattle.notes.specs.Book.{Form, InList, numberAt, naturalAt, isB, isP, isT, isPhraseLength, sizeOf, isWhole, isOneBFirst, isScore, isPhraseWord, isHistoryWord, isLastWord, rangesB, rangesP, rangesT, isInRange, isNotTooLong, isNoTripleTwice, linesRefusal, bookRefusal, loadedLines, wordsAt, Entry, Triple, Book, entryOf, tripleOf, bookOfLines, bookOf}
 use Rattle.notes.specs.Derivation.{noEntry, entryAt}
 use Rattle.notes.proofs.Chains.{first-passes, rest-passes, test-passes}
@@ -46,10 +47,10 @@ lines-passed form lines e =
 
 -- ════ ranges of numbers
 
-score-within : (z : ℤ) → isScore z ≡ true → Within 1_000_000 z
+score-within : (z : ℤ) → isScore z ≡ true → Within scoreMost z
 score-within z e = let h = both (leZ (negsuc 999_999) z) (leZ z (pos 1_000_000)) e in let a = h .0 in let b = h .1 in omega (arith, signed, num z)
 
-eta-range : (z : ℤ) → withinℤ (negsuc 9_999) (pos 10_000) z ≡ true → Within 10_000 z
+eta-range : (z : ℤ) → withinℤ (negsuc 9_999) (pos 10_000) z ≡ true → Within penaltyMost z
 eta-range z e = let h = both (leZ (negsuc 9_999) z) (leZ z (pos 10_000)) e in let a = h .0 in let b = h .1 in omega (arith, signed, num z)
 
 nat-high : (z : ℤ) (n : ℕ) → leZ z (pos n) ≡ true → natOf z ≤ n
@@ -67,8 +68,8 @@ kind-is line k e = yes-≡ (numberAt line 0) (pos k) e
 
 pub record BLine (line : List ℤ) : Type 0 where
   pub limit-to : naturalAt line 1 ≤ 32
-  pub eta-within : Within 10_000 (numberAt line 2)
-  pub unseen-within : Within 1_000_000 (numberAt line 3)
+  pub eta-within : Within penaltyMost (numberAt line 2)
+  pub unseen-within : Within scoreMost (numberAt line 3)
 
 pub b-line : (line : List ℤ) → isB line ≡ true → isInRange line ≡ true → BLine line
 unfolding isInRange
@@ -90,7 +91,7 @@ pub record PLine (line : List ℤ) : Type 0 where
   pub b-to : naturalAt line 2 ≤ 8
   pub long : length line ≡ naturalAt line 1 + naturalAt line 2 + 4
   pub words : all isPhraseWord (dropLast (drop 3 line)) ≡ true
-  pub score-within : Within 1_000_000 (numberAt line (3 + naturalAt line 1 + naturalAt line 2))
+  pub score-within : Within scoreMost (numberAt line (3 + naturalAt line 1 + naturalAt line 2))
 
 size-p : (form : Form) (line : List ℤ) → isP line ≡ true → isWhole form line ≡ true
     → (isPhraseLength (numberAt line 1) && isPhraseLength (numberAt line 2) ≡ true) × (length line ≡ naturalAt line 1 + naturalAt line 2 + 4)
@@ -125,10 +126,10 @@ p-line form line p w e =
       b-to = nat-high (numberAt line 2) 8 (b .1);
       long = s .1;
       words = h .0;
-      score-within = subst (λ (j : ℕ). Within 1_000_000 (numberAt line j)) at (score-within (numberAt line (length line - 1)) (h .1));
+      score-within = subst (λ (j : ℕ). Within scoreMost (numberAt line j)) at (score-within (numberAt line (length line - 1)) (h .1));
     }
 
-pub t-line : (line : List ℤ) → isT line ≡ true → isInRange line ≡ true → Within 1_000_000 (numberAt line 4)
+pub t-line : (line : List ℤ) → isT line ≡ true → isInRange line ≡ true → Within scoreMost (numberAt line 4)
 unfolding isInRange
 t-line line t e =
     let k : numberAt line 0 ≡ pos 3 = kind-is line 3 t in
@@ -143,11 +144,11 @@ words-long line from many h = length-map (take many (drop from line)) natOf ∙ 
 
 pub record Ranged (book : Book) : Type 0 where
   pub limit-to : book .limit ≤ 32
-  pub eta-within : Within 10_000 (book .eta)
-  pub unseen-within : Within 1_000_000 (book .unseen)
-  pub g-within : (k : ℕ) → Within 1_000_000 (entryAt book k .g)
+  pub eta-within : Within penaltyMost (book .eta)
+  pub unseen-within : Within scoreMost (book .unseen)
+  pub g-within : (k : ℕ) → Within scoreMost (entryAt book k .g)
   pub target-to : (k : ℕ) → length (entryAt book k .target) ≤ 8
-  pub triple-within : (t : Triple) → List·Memᴰ t (book .triples) → Within 1_000_000 (t .s)
+  pub triple-within : (t : Triple) → List·Memᴰ t (book .triples) → Within scoreMost (t .s)
 
 -- what holds of the lines' entries and of no entry holds of entry k
 entry-ind : (Q : Entry → Type 0) (lines : List (List ℤ)) → Q noEntry → ((line : List ℤ) → List·Memᴰ line lines → isP line ≡ true → Q (entryOf line))
@@ -169,7 +170,7 @@ book-ranged form (first ∷ lines) p =
       limit-to = b .limit-to;
       eta-within = b .eta-within;
       unseen-within = b .unseen-within;
-      g-within = λ k. entry-ind (λ e. Within 1_000_000 (e .g)) (first ∷ lines) (omega arith) (λ line m t. line-of line m t .score-within) (k - 1);
+      g-within = λ k. entry-ind (λ e. Within scoreMost (e .g)) (first ∷ lines) (omega arith) (λ line m t. line-of line m t .score-within) (k - 1);
       target-to = λ k. entry-ind (λ e. length (e .target) ≤ 8) (first ∷ lines) (omega arith)
           (λ line m t. let l = line-of line m t in
           let z : length (wordsAt line (3 + naturalAt line 1) (naturalAt line 2)) ≡ naturalAt line 2 = words-long line (3 + naturalAt line 1) (naturalAt line 2) (let n = l .long in omega arith) in
@@ -177,7 +178,7 @@ book-ranged form (first ∷ lines) p =
       triple-within = λ t m.
           let o = Memᴰ·of-map tripleOf (keep isT (first ∷ lines)) m in
           let q = keep-mem isT (first ∷ lines) (o .1) in
-          subst (λ (x : Triple). Within 1_000_000 (x .s)) (o .2) (t-line (o .0) (q .1) (all-mem isInRange (first ∷ lines) (p .ranged) (o .0) (q .0)));
+          subst (λ (x : Triple). Within scoreMost (x .s)) (o .2) (t-line (o .0) (q .1) (all-mem isInRange (first ∷ lines) (p .ranged) (o .0) (q .0)));
     }
   where
     line-of : (line : List ℤ) → List·Memᴰ line (first ∷ lines) → isP line ≡ true → PLine line

@@ -1,5 +1,5 @@
 -- A width of twice the score bound, 596,480,000, or more prunes nothing.
-use Prim.Native.Nat.{ℕ, _*_, _≤_}
+use Prim.Native.Nat.{ℕ, _≤_}
 use native.Mathlib.Omega.{arith}
 use mathlib.Core.Path.{_≡_, refl, sym, ap, subst}
 use mathlib.Core.List.{List, [], _∷_, map, List·Memᴰ, List·Memᴰ·head, List·Memᴰ·tail, Memᴰ·of-map}
@@ -16,7 +16,7 @@ use Rattle.search_theory.proofs.Sound.{set-mem, upto-legal}
 use Rattle.search_theory.proofs.Theorems as Theory
 use Rattle.notes.specs.Book.{Book}
 use Rattle.notes.specs.Direction.{wordCount}
-use Rattle.notes.specs.State.{Hyp, wordsCovered, scoreBound}
+use Rattle.notes.specs.State.{Hyp, wordsCovered, scoreBound, spreadBound}
 use Rattle.notes.specs.Search.{bestScore, isWithin, search, entered, lastSet, answer}
 use Rattle.notes.proofs.Ranges.{Ranged}
 use Rattle.notes.proofs.Instance.{legal-length, score-within, off-unpruned}
@@ -41,7 +41,7 @@ module _ (book : Book) (direction : List ℕ) (R : Ranged book) (n32 : wordCount
       let c = count-le (λ bit. bit) (q .key .covered) in
       within-mono (omega arith) (score-within book direction width R q g)
 
-  module _ (β : ℕ) (wide : 2 * scoreBound ≤ β) where
+  module _ (β : ℕ) (wide : spreadBound ≤ β) where
     wide-unpruned : Unpruned (search book direction (pos β))
     unfolding Unpruned isWithin
     wide-unpruned = λ i h q m.

@@ -23,11 +23,15 @@ isDirectionText text = isEnded text && isOneLineOfNumbers (linesOf text)
 unfoldable pub directionNumbers : List ℕ → List ℤ
 directionNumbers text = map valueOf (concat (linesOf text))
 
--- questions 9, "Are there 1 to 32?", and 10, "Is each 1 to 65,535?"
+-- question 10, of one number: "Is each 1 to 65,535?"
+abbrev pub isDirectionWord : ℤ → Bool
+isDirectionWord z = isWord z
+
+-- questions 9, "Are there 1 to 32?", and 10
 unfoldable pub numbersRefusal : List ℤ → ℕ
 numbersRefusal numbers =
     9 unless within 1 32 (length numbers)
-    orelse 10 unless all isWord numbers
+    orelse 10 unless all isDirectionWord numbers
 
 -- "A direction as numbers: 9, 10."
 unfoldable pub directionRefusal : List ℕ → ℕ

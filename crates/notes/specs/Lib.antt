@@ -1,6 +1,7 @@
 -- The meaning of document 01, in the order in which it is best read.
 pub mod Questions
 pub mod Numerals
+pub mod Bounds
 pub mod Book
 pub mod Direction
 pub mod Derivation

@@ -12,7 +12,7 @@ use Rattle.notes.specs.Numerals.{newline, comma, minus}
 use Rattle.notes.specs.Book.{Book, loadedOf, bookOf, readRefusal}
 use Rattle.notes.specs.Direction.{wordCount, directionOf, readDirectionRefusal}
 use Rattle.notes.specs.Derivation.{IsDerivation}
-use Rattle.notes.specs.Reply.{Reply, refused, done, Outcome, decode}
+use Rattle.notes.specs.Reply.{Reply, refused, done, Outcome, answerOf, countsOf, decode}
 use Rattle.notes.specs.declared.Step.{Step}
 
 -- ════ printed numbers and lines
@@ -44,7 +44,7 @@ printedRefusal k = printedLine 82 (pos k ∷ [])
 -- "A: score, steps, words, states; S: first, last, entry; W: the target words"
 unfoldable pub printedAnswer : Outcome → List Step → List ℕ → List ℕ
 printedAnswer a steps words =
-    printedLine 65 (a .score ∷ pos (length steps) ∷ pos (length words) ∷ pos (a .states) ∷ [])
+    printedLine 65 (countsOf (answerOf a (length steps) (length words)))
     ++ concat (map printedStep steps)
     ++ printedLine 87 (map pos words)
 

@@ -22,6 +22,7 @@ use Rattle.notes.specs.declared.Checked.{Checked}
 use Rattle.notes.specs.declared.Checked.the-variants.{Passed, Refused as CheckRefused}
 use Rattle.notes.specs.declared.Scored.{Scored}
 use Rattle.notes.specs.declared.Scored.the-variants.{Score, Refused as ScoreRefused}
+use Rattle.notes.specs.declared.Answer.{Answer}
 use Rattle.notes.specs.declared.Decoded.{Decoded}
 use Rattle.notes.specs.declared.Decoded.the-variants.{Done, Refused as DecodeRefused}
 
@@ -38,6 +39,13 @@ reply (suc k) a = refused (suc k)
 -- a lent list after `new` was written at its beginning: "places beyond the reported counts are unchanged"
 abbrev pub writtenOver : {A : Type 0} → List A → List A → List A
 writtenOver new old = new ++ drop (length new) old
+
+-- a lent list after as many of `new` as it has places for were written at its beginning: "A report list gets as many of its values as
+-- it has places"
+unfoldable pub filledWith : {A : Type 0} → List A → List A → List A
+filledWith [] old = old
+filledWith (x ∷ new) [] = []
+filledWith (x ∷ new) (y ∷ old) = x ∷ filledWith new old
 
 -- a lent list after a call that writes `new` where no question refuses
 abbrev pub writtenIf : {A : Type 0} → ℕ → List A → List A → List A
@@ -81,14 +89,18 @@ abbrev pub scoredReply : Scored → Reply ℤ
 scoredReply (Score score) = done score
 scoredReply (ScoreRefused refusal) = refused (number refusal)
 
--- "For each step in order, stopping at the first no": 16, 17 and 18; "After the last step, is every word covered?": 19
-unfoldable pub stepsRefusal : Book → List ℕ → Key → List Step → ℕ
-stepsRefusal book direction k [] = 19 unless all (λ bit. bit) (k .covered)
-stepsRefusal book direction k (step ∷ steps) =
+-- 16, 17 and 18 of one step, and then what is asked after it
+abbrev pub stepRefusal : Book → List ℕ → Key → Step → ℕ → ℕ
+stepRefusal book direction k step rest =
     16 unless fits book direction step
     orelse 17 unless isFree step 1 (k .covered)
     orelse 18 unless leb (jump (k .r) step) (book .limit)
-    orelse stepsRefusal book direction (nextKey book k step) steps
+    orelse rest
+
+-- "For each step in order, stopping at the first no"; "After the last step, is every word covered?": 19
+unfoldable pub stepsRefusal : Book → List ℕ → Key → List Step → ℕ
+stepsRefusal book direction k [] = 19 unless all (λ bit. bit) (k .covered)
+stepsRefusal book direction k (step ∷ steps) = stepRefusal book direction k step (stepsRefusal book direction (nextKey book k step) steps)
 
 -- "Scoring a proposed list, after 2 to 6, 9 and 10."
 unfoldable pub proposalRefusal : List ℤ → List ℕ → List Step → ℕ
@@ -107,8 +119,20 @@ pub record Outcome : Type 0 where
   pub score : ℤ
   pub states : ℕ
 
+-- what is determined of an answer
+abbrev pub outcomeOf : Answer → Outcome
+outcomeOf a = record { score = a .score; states = a .states }
+
+-- the answer of an outcome, with so many steps and words
+abbrev pub answerOf : Outcome → ℕ → ℕ → Answer
+answerOf o steps words = record { score = o .score; steps = steps; words = words; states = o .states }
+
+-- the numbers of an answer in the order of a report: "score, steps, words, states"
+abbrev pub countsOf : Answer → List ℤ
+countsOf a = a .score ∷ pos (a .steps) ∷ pos (a .words) ∷ pos (a .states) ∷ []
+
 abbrev pub decodedReply : Decoded → Reply Outcome
-decodedReply (Done a) = done (record { score = a .score; states = a .states })
+decodedReply (Done a) = done (outcomeOf a)
 decodedReply (DecodeRefused refusal) = refused (number refusal)
 
 -- the lengths of the lent lists: step records, words, and the store's numbers
@@ -144,13 +168,12 @@ abbrev pub answerScore : Option Hyp → ℤ
 answerScore none = pos 0
 answerScore (some q) = q .score
 
+-- what the search of the notes determines
+abbrev pub searchOutcome : Book → List ℕ → ℤ → Outcome
+searchOutcome book direction width = record { score = answerScore (answer book direction width); states = length (entered book direction width) }
+
 unfoldable pub decode : List ℤ → List ℕ → ℤ → Lent → Reply Outcome
-decode loaded direction width lent =
-    reply (decodeRefusal loaded direction width lent)
-    (record {
-      score = answerScore (answer (bookOf loaded) direction width);
-      states = length (entered (bookOf loaded) direction width);
-    })
+decode loaded direction width lent = reply (decodeRefusal loaded direction width lent) (searchOutcome (bookOf loaded) direction width)
 
 -- "After 13, 14, 15 and after success the store is all zero"; "Those up to 12 .. change no lent list."
 abbrev pub clearedIf : ℕ → List ℤ → List ℤ
@@ -163,20 +186,18 @@ decodedStore loaded direction width lent store = clearedIf (beforeSearch loaded 
 -- "On success the steps stand in the caller's list of step records, and each step's target words follow those of the step
 -- before; places beyond the reported counts are unchanged." The steps are free where several derivations share the top score:
 -- they are a valid derivation of the score reported, and the words are theirs
-pub record Written (book : Book) (direction : List ℕ) (score : ℤ) (stepCount wordCount′ : ℕ)
-    (steps₀ steps₁ : List Step) (words₀ words₁ : List ℕ) : Type 0 where
+pub record Written (book : Book) (direction : List ℕ) (a : Answer) (steps₀ steps₁ : List Step) (words₀ words₁ : List ℕ) : Type 0 where
   pub steps : List Step
   pub words : List ℕ
-  pub derivation : IsDerivation book direction score steps words
-  pub steps-counted : stepCount ≡ length steps
-  pub words-counted : wordCount′ ≡ length words
+  pub derivation : IsDerivation book direction (a .score) steps words
+  pub steps-counted : a .steps ≡ length steps
+  pub words-counted : a .words ≡ length words
   pub steps-after : steps₁ ≡ writtenOver steps steps₀
   pub words-after : words₁ ≡ writtenOver words words₀
 
 -- the steps and words after each case of the answer: after a refusal they "are as before"
 abbrev pub ListsAfter : Book → List ℕ → Decoded → List Step → List Step → List ℕ → List ℕ → Type 0
-ListsAfter book direction (Done a) steps₀ steps₁ words₀ words₁ =
-    Written book direction (a .score) (a .steps) (a .words) steps₀ steps₁ words₀ words₁
+ListsAfter book direction (Done a) steps₀ steps₁ words₀ words₁ = Written book direction a steps₀ steps₁ words₀ words₁
 ListsAfter book direction (DecodeRefused refusal) steps₀ steps₁ words₀ words₁ = (steps₁ ≡ steps₀) × (words₁ ≡ words₀)
 
 -- the whole of a decode, on all inputs: its reply, and each lent list before (₀) and after (₁)

@@ -10,6 +10,7 @@ use lib.ListN.{replicate}
 use Rattle.laws.specs.Bits.{bitsOf}
 use Rattle.laws.specs.Lists.{count, eqList, Distinct}
 use Rattle.search_theory.specs.Search.{Hypothesis}
+use Rattle.notes.specs.Bounds.{scoreMost, penaltyMost, saidBound}
 use Rattle.notes.specs.Book.{Book}
 use Rattle.notes.specs.Direction.{wordCount}
 use Rattle.notes.specs.Derivation.{entryAt, fits, covers, jump, wordsScore}
@@ -102,10 +103,14 @@ isBetter new old = ltZ (old .score) (new .score)
 
 -- "No score passes 32 × (1,000,000 + 8 × 1,000,000 + 32 × 10,000) = 298,240,000": what a step can add, for each of 32 words
 abbrev pub gainBound : ℕ
-gainBound = 1_000_000 + 8 * 1_000_000 + 32 * 10_000
+gainBound = scoreMost + saidBound + 32 * penaltyMost
 
 abbrev pub scoreBound : ℕ
 scoreBound = 32 * gainBound
+
+-- "a width of 596,480,000": no two scores are further apart, so it prunes nothing
+abbrev pub spreadBound : ℕ
+spreadBound = 2 * scoreBound
 
 -- the key of a state as code holds it: the covered positions of n are the lowest n binary digits of a number
 unfoldable pub keyOf : ℕ → State → Key

@@ -7,6 +7,7 @@ use mathlib.Core.List.{List, [], _∷_}
 use lib.IntN.{ℤ}
 use lib.ListN.{length, getD}
 use Rattle.laws.specs.Integers.{Within, natOf}
+use Rattle.notes.specs.Bounds.{scoreMost, penaltyMost}
 use Rattle.notes.specs.Questions.{_orelse_, number}
 use Rattle.notes.specs.Book.{InList, numberAt, naturalAt, isOneBFirst, bookRefusal, bookOf, bookOfLines, loadedLines}
 use Rattle.notes.specs.Direction.{wordCount, directionRefusal}
@@ -70,11 +71,11 @@ module _ (loaded : List ℤ) (passed : bookRefusal loaded ≡ 0) where
   unseen-read = first-number 3 (omega arith)
 
   -- and in their ranges
-  pub eta-small : Within 10_000 (numberAt loaded 2)
-  eta-small = subst (Within 10_000) eta-read (loaded-ranged loaded passed .eta-within)
+  pub eta-small : Within penaltyMost (numberAt loaded 2)
+  eta-small = subst (Within penaltyMost) eta-read (loaded-ranged loaded passed .eta-within)
 
-  pub unseen-small : Within 1_000_000 (numberAt loaded 3)
-  unseen-small = subst (Within 1_000_000) unseen-read (loaded-ranged loaded passed .unseen-within)
+  pub unseen-small : Within scoreMost (numberAt loaded 3)
+  unseen-small = subst (Within scoreMost) unseen-read (loaded-ranged loaded passed .unseen-within)
 
   -- the numbers that code reads there
   pub task-is : (n : ℕ) (counts : Counts) (limit : ℕ) (eta unseen : ℤ) → limit ≡ naturalAt loaded 1 → eta ≡ numberAt loaded 2 → unseen ≡ numberAt loaded 3
@@ -106,7 +107,7 @@ module _ {loaded index : List ℤ} {counts : Counts} {t : Task} (direction : Lis
   modelled = record {
     indexed = subst (Indexed index) (sym (k .triples-are)) (o .indexed);
     different = rw (k .triples-are) (o .different);
-    scores-within = λ v w y. subst (Within 1_000_000) (sym (same-score v w y)) (triple-within (bookOf loaded) (loaded-ranged loaded (o .passed)) v w y);
+    scores-within = λ v w y. subst (Within scoreMost) (sym (same-score v w y)) (triple-within (bookOf loaded) (loaded-ranged loaded (o .passed)) v w y);
   }
 
   -- all that a search or a score asks for

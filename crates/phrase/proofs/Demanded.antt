@@ -16,7 +16,7 @@ use Rattle.notes.specs.Book.{Book, bookOf}
 use Rattle.notes.specs.Derivation.{scoreOf}
 use Rattle.notes.specs.State.{Key, AreReachable}
 use Rattle.notes.specs.Search.{isOff, entered}
-use Rattle.notes.specs.Reply.{Reply, refused, done, Lent, Outcome, proposalRefusal, scoreProposal, scoredReply, beforeSearch, decodeRefusal, decode, decodedReply, clearedIf, decodedStore, ListsAfter, Decodes}
+use Rattle.notes.specs.Reply.{Reply, refused, done, Lent, Outcome, outcomeOf, proposalRefusal, scoreProposal, scoredReply, beforeSearch, decodeRefusal, decode, decodedReply, clearedIf, decodedStore, ListsAfter, Decodes}
 use Rattle.notes.specs.declared.Answer.{Answer}
 use Rattle.notes.specs.declared.Decoded.{Decoded}
 use Rattle.notes.specs.declared.Decoded.the-variants.{Done, Refused}
@@ -65,10 +65,7 @@ module _ (loaded : List ℤ) (direction : List ℕ) (width : ℤ) (steps₀ step
   abbrev lent : Lent
   lent = record { steps = length steps₀; words = length words₀; store = length store₀ }
 
-  abbrev outcome : Answer → Outcome
-  outcome a = record { score = a .score; states = a .states }
-
-  decoded : (a : Answer) → result ≡ Done a → decode loaded direction width lent ≡ done (outcome a)
+  decoded : (a : Answer) → result ≡ Done a → decode loaded direction width lent ≡ done (outcomeOf a)
   decoded a e = sym (D .reply-is) ∙ ap decodedReply e
 
   turned : (refusal : Refusal) → result ≡ Refused refusal → decode loaded direction width lent ≡ refused (number refusal)
@@ -94,7 +91,7 @@ module _ (loaded : List ℤ) (direction : List ℕ) (width : ℤ) (steps₀ step
 
   taken : (decodeRefusal loaded direction width lent ≡ 0) ↔ ((a : Answer) × (result ≡ Done a))
   unfolding decode
-  taken = (λ z. answers _ (reply-done (decodeRefusal loaded direction width lent) _ z), λ r. done-passes (decodeRefusal loaded direction width lent) _ (outcome (r .0)) (decoded (r .0) (r .1)))
+  taken = (λ z. answers _ (reply-done (decodeRefusal loaded direction width lent) _ z), λ r. done-passes (decodeRefusal loaded direction width lent) _ (outcomeOf (r .0)) (decoded (r .0) (r .1)))
 
   turned-down : (refusal : Refusal) → (decodeRefusal loaded direction width lent ≡ number refusal) ↔ (result ≡ Refused refusal)
   unfolding decode
@@ -131,7 +128,7 @@ module _ (loaded : List ℤ) (direction : List ℕ) (width : ℤ) (steps₀ step
       (Notes.answer-or-none loaded direction v lent (before-at v w b) h)
 
   states-entered : (a : Answer) → result ≡ Done a → a .states ≡ length (entered book direction width)
-  states-entered a e = Notes.decode-states loaded direction width lent (outcome a) (decoded a e)
+  states-entered a e = Notes.decode-states loaded direction width lent (outcomeOf a) (decoded a e)
 
   pub decode-demands : DecodeDemands loaded direction width steps₀ steps₁ words₀ words₁ store₀ store₁ result
   decode-demands =
@@ -146,7 +143,7 @@ module _ (loaded : List ℤ) (direction : List ℕ) (width : ℤ) (steps₀ step
               let n = number-from refusal in
               store-same (omega arith);
           store-cleared = λ refusal e h. store-zero (Notes.refused-late loaded direction width lent (number refusal) h (turned refusal e));
-          answered-cleared = λ r. store-zero (Notes.answered loaded direction width lent (outcome (r .0)) (decoded (r .0) (r .1)) .before);
+          answered-cleared = λ r. store-zero (Notes.answered loaded direction width lent (outcomeOf (r .0)) (decoded (r .0) (r .1)) .before);
         };
         demand2 = record {
           valid-and-exact = λ a e. subst (λ (r : Decoded). ListsAfter book direction r steps₀ steps₁ words₀ words₁) e (D .lists-are);
@@ -156,11 +153,11 @@ module _ (loaded : List ℤ) (direction : List ℕ) (width : ℤ) (steps₀ step
         demand3 = record {
           none-valid = λ w e steps. is-false (λ v. Notes.decode-none loaded direction lent (decode-at (negsuc 0) w ∙ turned NoDerivation e) steps v);
           gives-14 = λ w b r f. says NoDerivation (sym (decode-at (negsuc 0) w) ∙ Notes.none-decode loaded direction lent (before-at (negsuc 0) w b) (room (negsuc 0) r) (λ steps v. clash v (f steps)));
-          none-higher = λ w a e. Notes.decode-best loaded direction lent (outcome a) (decode-at (negsuc 0) w ∙ decoded a e);
+          none-higher = λ w a e. Notes.decode-best loaded direction lent (outcomeOf a) (decode-at (negsuc 0) w ∙ decoded a e);
           only-13 = λ e. (keysEntered book direction (negsuc 0), entered-all book direction, small e);
           never-13 = λ r e. never-13 loaded direction width lent (r .0) (r .1 .all-listed) (r .2) (turned StoreTooSmall e);
           gives-13 = λ w b r. says StoreTooSmall (sym (decode-at (negsuc 0) w) ∙ always-13 loaded direction lent (r .0) (r .1 .different) (r .1 .are-reached) (r .2) (before-at (negsuc 0) w b));
-          best-of-last-set = λ a e. Notes.decode-last loaded direction width lent (outcome a) (decoded a e);
+          best-of-last-set = λ a e. Notes.decode-last loaded direction width lent (outcomeOf a) (decoded a e);
           only-15 = λ e. Notes.decode-emptied loaded direction width lent (turned LastSetEmpty e);
           answer-or-14 = λ w b r. answer-or (negsuc 0) w NoDerivation refl b (room (negsuc 0) r);
           answer-or-15 = λ β w b r. answer-or (pos β) w LastSetEmpty refl b (room (pos β) r);

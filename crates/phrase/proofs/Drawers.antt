@@ -4,7 +4,7 @@ use mathlib.Core.Path.{_≡_, sym, _∙_, ap}
 use mathlib.Core.List.{List, [], _∷_}
 use lib.IntN.{ℤ}
 use lib.ListN.{length}
-use Rattle.notes.specs.Reply.{done, Outcome, decode, decodedReply, writtenOver, Decodes}
+use Rattle.notes.specs.Reply.{done, Outcome, outcomeOf, decode, decodedReply, writtenOver, Decodes}
 use Rattle.notes.specs.declared.Answer.{Answer}
 use Rattle.notes.specs.declared.Decoded.{Decoded}
 use Rattle.notes.specs.declared.Decoded.the-variants.{Done}
@@ -14,7 +14,7 @@ use Rattle.notes.proofs.Only.{Only, Decoding, only-d, only-e, decode-d, decode-
 use Rattle.phrase.proofs.Demanded.{done-result, decode-demands}
 
 same-score : (a : Answer) (o : Outcome) → decodedReply (Done a) ≡ done o → a .score ≡ o .score
-same-score a o e = let s : record { score = a .score; states = a .states } ≡ o = cc in ap (λ (x : Outcome). x .score) s
+same-score a o e = let s : outcomeOf a ≡ o = cc in ap (λ (x : Outcome). x .score) s
 
 -- any lists of n and 8 × n places or more, and a store of 512 states, whatever stands in them
 module _ (steps₀ steps₁ : List Step) (words₀ words₁ : List ℕ) (store₀ store₁ : List ℤ) (result : Decoded) (h : 2 ≤ length steps₀) (g : 16 ≤ length words₀) (m : length store₀ ≡ 8 * 512) where

@@ -72,7 +72,7 @@ module _ (loaded : List ℤ) (direction : List ℕ) (width : ℤ) (steps₀ step
   -- ScoreDemands]; the states entered are those of the notes' procedure, pruning on or off."
   pub record Demand2 : Type 0 where
     -- it stands in the lists, and the words are its words
-    pub valid-and-exact : (a : Answer) → result ≡ Done a → Written book direction (a .score) (a .steps) (a .words) steps₀ steps₁ words₀ words₁
+    pub valid-and-exact : (a : Answer) → result ≡ Done a → Written book direction a steps₀ steps₁ words₀ words₁
     -- their number is reported; with pruning off it is the number of those that the transitions can reach
     pub states-entered : (a : Answer) → result ≡ Done a → a .states ≡ length (entered book direction width)
     pub states-reachable : PruningOff → (a : Answer) → result ≡ Done a → (keys : List Key) → AreReachable book direction keys → a .states ≡ length keys

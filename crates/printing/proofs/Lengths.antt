@@ -10,8 +10,9 @@ use Rattle.laws.specs.Integers.{Within}
 use Rattle.laws.specs.Lists.{concat}
 use Rattle.laws.proofs.Lists.{mem-getD}
 use Rattle.notes.specs.Questions.{number}
+use Rattle.notes.specs.Bounds.{wordSpan}
 use Rattle.notes.specs.Render.{decimal, printedLine, printedStep, printedRefusal, printedAnswer}
-use Rattle.notes.specs.Reply.{Outcome}
+use Rattle.notes.specs.Reply.{Outcome, answerOf, countsOf}
 use Rattle.notes.specs.State.{scoreBound}
 use Rattle.notes.specs.declared.Refusal.{Refusal}
 use Rattle.notes.specs.declared.Step.{Step}
@@ -28,7 +29,7 @@ use Rattle.printing.proofs.Lines.{line-long}
 pub two-digits : (n : ℕ) → n < 100 → length (decimal (pos n)) ≤ 2
 two-digits n h = at-most 1 n h
 
-pub five-digits : (n : ℕ) → n < 65_536 → length (decimal (pos n)) ≤ 5
+pub five-digits : (n : ℕ) → n < wordSpan → length (decimal (pos n)) ≤ 5
 five-digits n h = at-most 4 n (omega arith)
 
 pub twenty-digits : (n : ℕ) → n < 2 ^ 64 → length (decimal (pos n)) ≤ 20
@@ -57,9 +58,9 @@ refusal-short refusal = omega (arith, line-1-long 82 (pos (number refusal)), two
 
 -- a step of 16-bit numbers
 pub record Small (step : Step) : Type 0 where
-  pub first : step .first < 65_536
-  pub last : step .last < 65_536
-  pub entry : step .entry < 65_536
+  pub first : step .first < wordSpan
+  pub last : step .last < wordSpan
+  pub entry : step .entry < wordSpan
 
 pub step-short : (step : Step) → Small step → length (printedStep step) ≤ 20
 step-short step h =
@@ -76,24 +77,24 @@ each-short f most (x ∷ xs) h =
 pub steps-short : (steps : List Step) → ((s : Step) → List·Memᴰ s steps → Small s) → length (concat (map printedStep steps)) ≤ 20 * length steps
 steps-short steps h = each-short printedStep 20 steps (λ s m. step-short s (h s m))
 
-pub words-short : (words : List ℕ) → ((w : ℕ) → List·Memᴰ w words → w < 65_536) → length (printedLine 87 (map pos words)) ≤ 2 + 6 * length words
+pub words-short : (words : List ℕ) → ((w : ℕ) → List·Memᴰ w words → w < wordSpan) → length (printedLine 87 (map pos words)) ≤ 2 + 6 * length words
 words-short words h =
     omega (arith, line-long 87 (map pos words), ap (λ (l : List (List ℕ)). length (concat l)) (map-map field pos words), each-short (λ n. field (pos n)) 6 words (λ w m. omega (arith, five-digits w (h w m))))
 
 -- ---- an answer: 32 steps of 20 bytes, 256 words of 6, and the line of its numbers
 
 pub answer-short : (a : Outcome) (steps : List Step) (words : List ℕ) → Within scoreBound (a .score) → a .states < 2 ^ 64
-    → length steps ≤ 32 → ((s : Step) → List·Memᴰ s steps → Small s) → length words ≤ 256 → ((w : ℕ) → List·Memᴰ w words → w < 65_536)
+    → length steps ≤ 32 → ((s : Step) → List·Memᴰ s steps → Small s) → length words ≤ 256 → ((w : ℕ) → List·Memᴰ w words → w < wordSpan)
     → length (printedAnswer a steps words) ≤ 4_096
 unfolding printedAnswer
 answer-short a steps words score states few small short fit =
-    let counts = printedLine 65 (a .score ∷ pos (length steps) ∷ pos (length words) ∷ pos (a .states) ∷ []) in
+    let counts = printedLine 65 (countsOf (answerOf a (length steps) (length words))) in
     let lines = concat (map printedStep steps) in
     omega
     (arith, length-append (counts ++ lines) (printedLine 87 (map pos words)), length-append counts lines, line-4-long 65 (a .score) (pos (length steps)) (pos (length words)) (pos (a .states)), score-short (a .score) score, two-digits (length steps) (omega arith), at-most 2 (length words) (omega arith), twenty-digits (a .states) states, steps-short steps small, words-short words fit)
 
 -- steps that stand as plain numbers are of 16-bit numbers where the numbers are
-pub steps-small : (numbers : List ℕ) (count : ℕ) → ((i : ℕ) → getD numbers i 0 < 65_536) → (s : Step) → List·Memᴰ s (stepsOf (plainOf numbers count)) → Small s
+pub steps-small : (numbers : List ℕ) (count : ℕ) → ((i : ℕ) → getD numbers i 0 < wordSpan) → (s : Step) → List·Memᴰ s (stepsOf (plainOf numbers count)) → Small s
 steps-small numbers count h s m =
     let p = plainOf numbers count in
     let r = mem-getD (stepsOf p) (stepIn p 0) m in

@@ -7,10 +7,12 @@ use lib.IntN.{ℤ, pos}
 use lib.ListN.{length, length-append}
 use Rattle.laws.specs.Lists.{concat}
 use Rattle.notes.specs.Numerals.{newline}
+use Rattle.notes.specs.Reply.{outcomeOf, countsOf}
 use Rattle.notes.specs.Render.{printedLine, printedStep, printedAnswer}
+use Rattle.notes.specs.declared.Answer.{Answer}
 use Rattle.records.specs.Plain.{stepsOf}
 use Rattle.records.proofs.Laws.{count-steps}
-use Rattle.printing.specs.Lines.{outcomeOf, plainOf}
+use Rattle.printing.specs.Lines.{plainOf}
 use Rattle.decimals.specs.Put.{field}
 
 -- the letter, the fields and the end
@@ -22,15 +24,15 @@ pub line-long : (l : ℕ) (ns : List ℤ) → length (printedLine l ns) ≡ 2 + 
 line-long l ns = ap length (line-is l ns) ∙ simp length-append (omega arith)
 
 -- an answer: its numbers, its steps, its words
-pub answer-is : (score : ℤ) (states : ℕ) (plain : List ℕ) (count : ℕ) (words : List ℕ)
-    → printedAnswer (outcomeOf score states) (stepsOf (plainOf plain count)) words
-    ≡ printedLine 65 (score ∷ pos count ∷ pos (length words) ∷ pos states ∷ []) ++ concat (map printedStep (stepsOf (plainOf plain count))) ++ printedLine 87 (map pos words)
+pub answer-is : (a : Answer) (plain words : List ℕ) → a .words ≡ length words
+    → printedAnswer (outcomeOf a) (stepsOf (plainOf plain (a .steps))) words
+    ≡ printedLine 65 (countsOf a) ++ concat (map printedStep (stepsOf (plainOf plain (a .steps)))) ++ printedLine 87 (map pos words)
 unfolding printedAnswer
-answer-is score states plain count words = rw (count-steps (plainOf plain count) count)
+answer-is a plain words e = rw (count-steps (plainOf plain (a .steps)) (a .steps), e)
 
-pub answer-long : (score : ℤ) (states : ℕ) (plain : List ℕ) (count : ℕ) (words : List ℕ)
-    → length (printedAnswer (outcomeOf score states) (stepsOf (plainOf plain count)) words)
-    ≡ length (printedLine 65 (score ∷ pos count ∷ pos (length words) ∷ pos states ∷ []))
-    + length (concat (map printedStep (stepsOf (plainOf plain count))))
+pub answer-long : (a : Answer) (plain words : List ℕ) → a .words ≡ length words
+    → length (printedAnswer (outcomeOf a) (stepsOf (plainOf plain (a .steps))) words)
+    ≡ length (printedLine 65 (countsOf a))
+    + length (concat (map printedStep (stepsOf (plainOf plain (a .steps)))))
     + length (printedLine 87 (map pos words))
-answer-long score states plain count words = ap length (answer-is score states plain count words) ∙ simp length-append
+answer-long a plain words e = ap length (answer-is a plain words e) ∙ simp length-append

@@ -13,6 +13,7 @@ use mir.Facts.{toZ-pos}
 use Rattle.laws.specs.Integers.{Within}
 use Rattle.laws.proofs.Bounds.{within-mono, within-pos}
 use Rattle.laws.proofs.Lists.{take-next}
+use Rattle.notes.specs.Bounds.{wordSpan}
 use Rattle.notes.specs.Render.{printedLine}
 use Rattle.printing.specs.Lines.{Printable}
 
@@ -34,7 +35,7 @@ pub cast-is : (n : ℕ) → n ≤ 2 ^ 62 → toZ w64 n ≡ pos n
 cast-is n h = toZ-pos w64 (omega arith)
 
 -- words can be put
-pub words-put : (words : List ℕ) → ((i : ℕ) → getD words i 0 < 65_536) → Printable (map pos words)
+pub words-put : (words : List ℕ) → ((i : ℕ) → getD words i 0 < wordSpan) → Printable (map pos words)
 words-put words h = record { each = λ i l. subst (Within (2 ^ 62)) (sym (List·getD-map pos words i 0)) (nat-put (getD words i 0) (omega (arith, h i))) }
 
 -- what putting a line asks of the numbers as code holds them, zs, where they are the numbers ns

@@ -7,10 +7,12 @@ ghost use lib.IntN.{pos};
 ghost use lib.ListN.{length, take};
 ghost use Rattle.laws.specs.Lists.{concat};
 ghost use Rattle.notes.specs.Questions.{number};
+ghost use Rattle.notes.specs.Reply.{outcomeOf, countsOf};
 ghost use Rattle.notes.specs.Render.{printedLine, printedStep, printedRefusal, printedAnswer};
 ghost use Rattle.records.specs.Plain.{stepsOf};
 ghost use Rattle.decimals.specs.Put.{Put, field};
-ghost use Rattle.printing.specs.Lines.{Printable, countsOf, outcomeOf, plainOf};
+ghost use Rattle.printing.specs.Lines.{Printable, plainOf};
+use notes::Answer;
 use notes::Refusal;
 use notes::Step;
 
@@ -59,19 +61,12 @@ fn put_step(out: &mut [u8], at: usize, step: Step) -> usize
 }
 
 // Puts the line of an answer's numbers: its score, how many steps and target words it has, and how many states were entered.
-fn put_counts(
-    out: &mut [u8],
-    at: usize,
-    score: i64,
-    steps: usize,
-    words: usize,
-    states: usize,
-) -> usize
-    requires { ⌜ Printable (countsOf score steps words states) ⌝ }
-    requires { ⌜ at + length (printedLine 65 (countsOf score steps words states)) ≤ length (now out) ⌝ }
-    ensures { λ r. ⌜ Put (printedLine 65 (countsOf score steps words states)) at r (now (out .entry)) (now (out .exit)) ⌝ }
+fn put_counts(out: &mut [u8], at: usize, a: Answer) -> usize
+    requires { ⌜ Printable (countsOf a) ⌝ }
+    requires { ⌜ at + length (printedLine 65 (countsOf a)) ≤ length (now out) ⌝ }
+    ensures { λ r. ⌜ Put (printedLine 65 (countsOf a)) at r (now (out .entry)) (now (out .exit)) ⌝ }
 {
-    let numbers = [score, steps as i64, words as i64, states as i64];
+    let numbers = [a.score, a.steps as i64, a.words as i64, a.states as i64];
     put_line(out, at, 65, &numbers)
 }
 
@@ -120,23 +115,16 @@ fn put_steps(out: &mut [u8], at: usize, plain: &[u16], count: usize) -> usize
     next
 }
 
-// Puts a whole answer: the line of its numbers, a line for each of its `count` steps, and the line of its target words.
-pub fn put_answer(
-    out: &mut [u8],
-    at: usize,
-    score: i64,
-    states: usize,
-    plain: &[u16],
-    count: usize,
-    words: &[u16],
-) -> usize
-    requires { ⌜ Printable (countsOf score count (length (now words)) states) ⌝ }
+// Puts a whole answer: the line of its numbers, a line for each of its steps, and the line of its target words.
+pub fn put_answer(out: &mut [u8], at: usize, a: Answer, plain: &[u16], words: &[u16]) -> usize
+    requires { ⌜ Printable (countsOf a) ⌝ }
+    requires { ⌜ a .words ≡ length (now words) ⌝ }
     requires { ⌜ length (now words) ≤ 256 ⌝ }
-    requires { ⌜ 3 * count ≤ length (now plain) ⌝ }
-    requires { ⌜ at + length (printedAnswer (outcomeOf score states) (stepsOf (plainOf (now plain) count)) (now words)) ≤ length (now out) ⌝ }
-    ensures { λ r. ⌜ Put (printedAnswer (outcomeOf score states) (stepsOf (plainOf (now (plain .entry)) count)) (now (words .entry))) at r (now (out .entry)) (now (out .exit)) ⌝ }
+    requires { ⌜ 3 * a .steps ≤ length (now plain) ⌝ }
+    requires { ⌜ at + length (printedAnswer (outcomeOf a) (stepsOf (plainOf (now plain) (a .steps))) (now words)) ≤ length (now out) ⌝ }
+    ensures { λ r. ⌜ Put (printedAnswer (outcomeOf a) (stepsOf (plainOf (now (plain .entry)) (a .steps))) (now (words .entry))) at r (now (out .entry)) (now (out .exit)) ⌝ }
 {
-    let steps = put_counts(out, at, score, count, words.len(), states);
-    let line = put_steps(out, steps, plain, count);
+    let steps = put_counts(out, at, a);
+    let line = put_steps(out, steps, plain, a.steps);
     put_words(out, line, words)
 }

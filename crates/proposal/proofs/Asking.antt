@@ -17,11 +17,13 @@ use Rattle.laws.proofs.Bounds.{within-+, within-mono}
 use Rattle.laws.proofs.Lists.{count-le}
 use Rattle.coverage.specs.Runs.{RunsFrom, maskOf}
 use Rattle.coverage.proofs.Laws.{free-run, mask-fits}
+use Rattle.notes.specs.Bounds.{penaltyMost}
 use Rattle.notes.specs.Questions.{_unless_, within}
 use Rattle.notes.specs.Book.{Book, bookOf}
 use Rattle.notes.specs.Direction.{wordCount, directionRefusal, numbersRefusal}
 use Rattle.notes.specs.Derivation.{isEntry, entryAt, fits, jump}
 use Rattle.notes.specs.State.{Key, wordsCovered, isFree, mayExtend, nextKey, gain, gainBound, keyOf}
+use Rattle.notes.specs.Reply.{stepRefusal}
 use Rattle.notes.specs.declared.Step.{Step}
 use Rattle.notes.specs.declared.State.{State}
 use Rattle.notes.proofs.Chains.{first-passes, test-passes}
@@ -32,7 +34,7 @@ use Rattle.notes.proofs.Bounds.{gain-within}
 use Rattle.derivation.specs.Model.{PhraseOf}
 use Rattle.derivation.specs.Next.{nextState, CanNext}
 use Rattle.derivation.specs.Prepared.{Prepared}
-use Rattle.proposal.specs.Proposal.{Ready, Follows, stepRefusal}
+use Rattle.proposal.specs.Proposal.{Ready, Follows}
 use Rattle.derivation.specs.declared.Task.{Task}
 use Rattle.derivation.specs.declared.Phrase.{Phrase}
 use Rattle.options.proofs.Fits.{hasWords}
@@ -139,7 +141,7 @@ module _ (loaded : List ℤ) (direction : List ℕ) (index : List ℤ) (t : Task
             last-to = omega arith;
             room = (let c = covers-in in let p = pow-mono {i = n} {j = 32} d in omega (arith, c, p));
             near = (let m = ranged .limit-to in omega (arith, near, m));
-            eta-within = subst (Within 10_000) (sym (P .eta-is)) (ranged .eta-within);
+            eta-within = subst (Within penaltyMost) (sym (P .eta-is)) (ranged .eta-within);
             score-within = (let c = covered-few in within-mono (omega (arith, c, d)) (R .score-within));
           }
 

@@ -20,14 +20,14 @@ use Rattle.notes.specs.Direction.{wordCount}
 use Rattle.notes.specs.Derivation.{fits, jump, scoreOf}
 use Rattle.notes.specs.State.{Key, start, isFree, mayExtend, nextKey, gain, keyOf}
 use Rattle.notes.specs.Search.{search}
-use Rattle.notes.specs.Reply.{Reply, refused, done, reply, stepsRefusal}
+use Rattle.notes.specs.Reply.{Reply, refused, done, reply, stepRefusal, stepsRefusal}
 use Rattle.notes.specs.declared.Step.{Step}
 use Rattle.notes.specs.declared.State.{State}
 use Rattle.notes.specs.declared.Refusal.{Refusal}
 use Rattle.notes.proofs.Chains.{reply-done, reply-refused}
 use Rattle.notes.proofs.Numbered.{refused-reply}
 use Rattle.notes.proofs.Scores.{total-score}
-use Rattle.proposal.specs.Proposal.{stepIn, stepsIn, Ready, Follows, stepRefusal}
+use Rattle.proposal.specs.Proposal.{stepIn, stepsIn, Ready, Follows}
 
 -- ════ 19: every word is covered exactly where the number has all its digits
 

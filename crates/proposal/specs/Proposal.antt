@@ -3,16 +3,15 @@ use Prim.Native.Nat.{ℕ, _+_, _*_, _^_, _<_}
 use mathlib.Core.Path.{_≡_}
 use mathlib.Core.Bool.{true}
 use mathlib.Core.List.{List, map}
-use lib.Dec.{leb}
 use lib.IntN.{_+ℤ_}
 use lib.ListN.{getD}
 use Rattle.laws.specs.Integers.{Within}
 use Rattle.laws.specs.Lists.{numbersFrom}
-use Rattle.notes.specs.Questions.{_unless_, _orelse_, number}
+use Rattle.notes.specs.Questions.{number}
 use Rattle.notes.specs.Book.{Book}
 use Rattle.notes.specs.Direction.{wordCount}
-use Rattle.notes.specs.Derivation.{fits, jump}
-use Rattle.notes.specs.State.{Key, wordsCovered, isFree, mayExtend, nextKey, gain, gainBound, keyOf}
+use Rattle.notes.specs.State.{wordsCovered, mayExtend, nextKey, gain, gainBound, keyOf}
+use Rattle.notes.specs.Reply.{stepRefusal}
 use Rattle.notes.specs.declared.Step.{Step}
 use Rattle.notes.specs.declared.State.{State}
 use Rattle.proposal.specs.declared.Asked.{Asked}
@@ -29,7 +28,7 @@ stepIn steps i = stepOf (getD steps (3 * i) 0) (getD steps (3 * i + 1) 0) (getD 
 unfoldable pub stepsIn : List ℕ → ℕ → List Step
 stepsIn steps count = map (stepIn steps) (numbersFrom 0 count)
 
--- the state's numbers are small: no position beyond the direction is covered, and the score is within 9,320,000 for each covered word
+-- the state's numbers are small: no position beyond the direction is covered, and the score is within what a step can add for each covered word
 pub record Ready (direction : List ℕ) (s : State) : Type 0 where
   pub small : s .covered < 2 ^ wordCount direction
   pub score-within : Within (gainBound * wordsCovered (keyOf (wordCount direction) s)) (s .score)
@@ -40,14 +39,6 @@ pub record Follows (book : Book) (direction : List ℕ) (s : State) (step : Step
   pub key-is : keyOf (wordCount direction) t ≡ nextKey book (keyOf (wordCount direction) s) step
   pub score-is : t .score ≡ s .score +ℤ gain book (keyOf (wordCount direction) s) step
   pub ready : Ready direction t
-
--- 16, 17 and 18 of a step, and then what is asked after it
-abbrev pub stepRefusal : Book → List ℕ → Key → Step → ℕ → ℕ
-stepRefusal book direction k step rest =
-    16 unless fits book direction step
-    orelse 17 unless isFree step 1 (k .covered)
-    orelse 18 unless leb (jump (k .r) step) (book .limit)
-    orelse rest
 
 -- the next state, or the question that refuses whatever is asked after the step
 abbrev pub AskedOf : Book → List ℕ → State → Step → Asked → Type 0

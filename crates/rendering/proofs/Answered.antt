@@ -9,7 +9,7 @@ use lib.ListN.{length, take, drop, length-append}
 use lib.Seq.{take-at}
 use Rattle.notes.specs.Book.{Book, bookOf}
 use Rattle.notes.specs.Derivation.{IsDerivation}
-use Rattle.notes.specs.Reply.{Reply, Outcome, decode, decodedReply, writtenOver, Written, ListsAfter}
+use Rattle.notes.specs.Reply.{Reply, Outcome, outcomeOf, decode, decodedReply, writtenOver, Written, ListsAfter}
 use Rattle.notes.specs.Render.{PrintsReply}
 use Rattle.notes.specs.declared.Answer.{Answer}
 use Rattle.notes.specs.declared.Decoded.{Decoded}
@@ -21,7 +21,7 @@ use Rattle.records.specs.Plain.{stepsTo, stepsOf}
 use Rattle.records.proofs.Laws.{count-steps, first-steps, same-steps, over-same}
 use Rattle.answer.specs.declared.Core.{Core}
 use Rattle.decoder.specs.Core.{CoreDecodes}
-use Rattle.printing.specs.Lines.{outcomeOf, plainOf}
+use Rattle.printing.specs.Lines.{plainOf}
 use Rattle.rendering.specs.Parts.{FitsDecoded, printedDone, printedDecoded, decodeOff}
 
 module _ (loaded : List ℤ) (direction : List ℕ) (p : Plain) (few : p .count ≤ 32) (words₀ words₁ : List ℕ) (long : length words₁ ≡ 256) where
@@ -32,7 +32,7 @@ module _ (loaded : List ℤ) (direction : List ℕ) (p : Plain) (few : p .count 
   abbrev places : List Step
   places = stepsTo p 32
 
-  module _ (a : Answer) (w : Written book direction (a .score) (a .steps) (a .words) places (writtenOver (stepsOf p) places) words₀ words₁) where
+  module _ (a : Answer) (w : Written book direction a places (writtenOver (stepsOf p) places) words₀ words₁) where
     after : writtenOver (w .steps) places ≡ places
     after = sym (w .steps-after) ∙ over-same p (p .count) 32 few
 
@@ -62,9 +62,9 @@ module _ (loaded : List ℤ) (direction : List ℕ) (p : Plain) (few : p .count 
   fits : (d : Decoded) → decodedReply d ≡ decodeOff loaded direction → ListsAfter book direction d places (writtenOver (stepsOf p) places) words₀ words₁ → FitsDecoded d
   unfolding decodeOff
   fits (Done a) e w =
-      let r = answered loaded direction (negsuc 0) (record { steps = 32; words = 256; store = 4_096 }) (outcomeOf (a .score) (a .states)) (sym e) in
+      let r = answered loaded direction (negsuc 0) (record { steps = 32; words = 256; store = 4_096 }) (outcomeOf a) (sym e) in
       record {
-        score = decode-bound loaded direction (negsuc 0) (record { steps = 32; words = 256; store = 4_096 }) (outcomeOf (a .score) (a .states)) (sym e);
+        score = decode-bound loaded direction (negsuc 0) (record { steps = 32; words = 256; store = 4_096 }) (outcomeOf a) (sym e);
         steps = steps-few a w;
         words = words-few a w;
         states = omega (arith, r .states-are, r .room);

@@ -7,29 +7,31 @@ use lib.ListN.{length, getD, take, length-take}
 use lib.Seq.{getD-take}
 use Rattle.laws.proofs.Bounds.{within-mono}
 use Rattle.laws.proofs.Lists.{mem-getD}
+use Rattle.notes.specs.Bounds.{wordSpan}
+use Rattle.notes.specs.Reply.{outcomeOf, countsOf}
 use Rattle.notes.specs.declared.Answer.{Answer}
 use Rattle.records.proofs.Laws.{count-steps}
 use Rattle.records.specs.Plain.{stepsOf}
-use Rattle.printing.specs.Lines.{Printable, countsOf, outcomeOf, plainOf}
+use Rattle.printing.specs.Lines.{Printable, plainOf}
 use Rattle.printing.proofs.Numbers.{none-put, and-put, nat-put}
 use Rattle.printing.proofs.Lengths.{answer-short, steps-small}
 use Rattle.rendering.specs.Parts.{Fits, printedDone}
 
 -- the numbers of its first line can be put
-pub done-printable : (a : Answer) → Fits a → Printable (countsOf (a .score) (a .steps) (a .words) (a .states))
+pub done-printable : (a : Answer) → Fits a → Printable (countsOf a)
 done-printable a f =
     and-put (within-mono (omega arith) (f .score)) (and-put (nat-put _ (omega (arith, f .steps))) (and-put (nat-put _ (omega (arith, f .words))) (and-put (nat-put _ (omega (arith, f .states))) none-put)))
 
 -- the numbers of an answer are of 16 bits
-pub done-short : (a : Answer) (numbers words : List ℕ) → Fits a → ((i : ℕ) → getD numbers i 0 < 65_536) → ((i : ℕ) → getD words i 0 < 65_536)
+pub done-short : (a : Answer) (numbers words : List ℕ) → Fits a → ((i : ℕ) → getD numbers i 0 < wordSpan) → ((i : ℕ) → getD words i 0 < wordSpan)
     → length (printedDone a numbers words) ≤ 4_096
 done-short a numbers words f small fit =
-    answer-short (outcomeOf (a .score) (a .states)) (stepsOf (plainOf numbers (a .steps))) (take (a .words) words) (f .score) (omega (arith, f .states))
+    answer-short (outcomeOf a) (stepsOf (plainOf numbers (a .steps))) (take (a .words) words) (f .score) (omega (arith, f .states))
     (omega (arith, count-steps (plainOf numbers (a .steps)) (a .steps), f .steps)) (steps-small numbers (a .steps) small)
     (omega (arith, length-take (a .words) words, f .words)) each
   where
-    each : (w : ℕ) → List·Memᴰ w (take (a .words) words) → w < 65_536
+    each : (w : ℕ) → List·Memᴰ w (take (a .words) words) → w < wordSpan
     each w m =
         let r = mem-getD (take (a .words) words) 0 m in
         let l : r .0 < a .words = omega (arith, length-take (a .words) words, r .1) in
-        subst (λ (n : ℕ). n < 65_536) (sym (getD-take (a .words) words (r .0) 0 l) ∙ r .2) (fit (r .0))
+        subst (λ (n : ℕ). n < wordSpan) (sym (getD-take (a .words) words (r .0) 0 l) ∙ r .2) (fit (r .0))

@@ -9,13 +9,13 @@ use Rattle.notes.specs.Questions.{number}
 use Rattle.notes.specs.Book.{bookOf}
 use Rattle.notes.specs.Direction.{directionOf}
 use Rattle.notes.specs.State.{scoreBound}
-use Rattle.notes.specs.Reply.{Reply, Outcome, decode}
+use Rattle.notes.specs.Reply.{Reply, Outcome, outcomeOf, decode}
 use Rattle.notes.specs.Render.{printedRefusal, printedAnswer, PrintsReply}
 use Rattle.notes.specs.declared.Answer.{Answer}
 use Rattle.notes.specs.declared.Decoded.{Decoded}
 use Rattle.notes.specs.declared.Decoded.the-variants.{Done, Refused}
 use Rattle.records.specs.Plain.{stepsOf}
-use Rattle.printing.specs.Lines.{outcomeOf, plainOf}
+use Rattle.printing.specs.Lines.{plainOf}
 
 -- the list begins with r bytes of which P holds, and the places beyond them are as before
 pub record Begins (P : List ℕ → Type 0) (r : ℕ) (old out : List ℕ) : Type 0 where
@@ -25,7 +25,7 @@ pub record Begins (P : List ℕ → Type 0) (r : ℕ) (old out : List ℕ) : Typ
 
 -- an answer, its steps as plain numbers and its words at the beginning of a list
 abbrev pub printedDone : Answer → List ℕ → List ℕ → List ℕ
-printedDone a numbers words = printedAnswer (outcomeOf (a .score) (a .states)) (stepsOf (plainOf numbers (a .steps))) (take (a .words) words)
+printedDone a numbers words = printedAnswer (outcomeOf a) (stepsOf (plainOf numbers (a .steps))) (take (a .words) words)
 
 abbrev pub printedDecoded : Decoded → List ℕ → List ℕ → List ℕ
 printedDecoded (Done a) numbers words = printedDone a numbers words

@@ -30,15 +30,7 @@ fn put_done(out: &mut [u8], answer: Answer, numbers: &[u16], words: &[u16]) -> u
     ensures { λ r. ⌜ Put (printedDone answer (now (numbers .entry)) (now (words .entry))) 0 r (now (out .entry)) (now (out .exit)) ⌝ }
 {
     let count = answer.words;
-    printing::put_answer(
-        out,
-        0,
-        answer.score,
-        answer.states,
-        numbers,
-        answer.steps,
-        &words[..count],
-    )
+    printing::put_answer(out, 0, answer, numbers, &words[..count])
 }
 
 // Puts what a decode replied.

@@ -14,7 +14,8 @@ use Rattle.text.specs.Walk.{RowRead}
 use Rattle.fields.specs.Fields.{start, FieldRead}
 use Rattle.fields.specs.declared.Piece.{Piece}
 use Rattle.fields.proofs.Cut.{Sort, sort}
-use Rattle.text.proofs.Row.{Writing, write-start, write-put, write-count, write-end, filled-length}
+use Rattle.notes.proofs.Filled.{filled-length}
+use Rattle.text.proofs.Row.{Writing, write-start, write-put, write-count, write-end}
 use Rattle.fields.proofs.Fields.{field-ends, walk-end}
 use Rattle.text.proofs.Numbers.{book-numbers}
 use Rattle.text.proofs.Lines.{At, next-line, loaded-next}

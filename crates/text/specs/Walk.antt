@@ -1,19 +1,14 @@
--- A list that takes as many numbers as it has places, and a line of a book's text read to one.
+-- A line of a book's text read to a list that takes as many numbers as it has places.
 use Prim.Native.Nat.{ℕ, _+_, _≤_}
 use mathlib.Core.Path.{_≡_}
 use mathlib.Core.Bool.{true, _&&_}
-use mathlib.Core.List.{List, [], _∷_}
+use mathlib.Core.List.{List}
 use lib.IntN.{ℤ}
 use lib.ListN.{length, drop}
+use Rattle.notes.specs.Reply.{filledWith}
 use Rattle.fields.specs.Scan.{Line, run, atLine, emitLine}
 use Rattle.fields.specs.Fields.{lineLength}
 use Rattle.text.specs.declared.TextLine.{TextLine}
-
--- a lent list after as many of `new` as it has places for were written at its beginning
-unfoldable pub filledWith : List ℤ → List ℤ → List ℤ
-filledWith [] old = old
-filledWith (z ∷ new) [] = []
-filledWith (z ∷ new) (y ∷ old) = z ∷ filledWith new old
 
 -- the line from `at` on was read to the list that was `old`, where it is good
 pub record RowRead (t : List ℕ) (at : ℕ) (old new : List ℤ) (r : TextLine) : Type 0 where

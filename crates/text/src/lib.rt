@@ -6,10 +6,10 @@ ghost use Prim.Native.Nat.{_≤_, _<_};
 ghost use lib.ListN.{length, set};
 ghost use Rattle.notes.specs.Book.{isBookText, loadedOf};
 ghost use Rattle.notes.specs.Direction.{isDirectionText, directionNumbers};
-ghost use Rattle.notes.specs.Reply.{writtenOver};
+ghost use Rattle.notes.specs.Reply.{writtenOver, filledWith};
 ghost use Rattle.fields.specs.Scan.{run, atLine, emit};
 ghost use Rattle.fields.specs.Fields.{start};
-ghost use Rattle.text.specs.Walk.{filledWith, RowRead};
+ghost use Rattle.text.specs.Walk.{RowRead};
 
 // A line of a book's text that was read: how many numbers it has, its kind among them, and the place behind it. It is good where
 // each of its fields is, and the byte 10 ends it.

@@ -14,11 +14,10 @@ use Rattle.laws.specs.Integers.{natOf}
 use Rattle.laws.specs.Lists.{all}
 use Rattle.laws.proofs.Tests.{between}
 use Rattle.notes.specs.Questions.{within}
-use Rattle.notes.specs.Book.{isWord}
+use Rattle.notes.specs.Direction.{isDirectionWord}
 use Rattle.notes.specs.Direction.{isDirectionText, directionNumbers, numbersRefusal}
-use Rattle.notes.specs.Reply.{writtenOver}
-use Rattle.text.specs.Walk.{filledWith}
-use Rattle.text.proofs.Row.{filled-length, filled-take}
+use Rattle.notes.specs.Reply.{writtenOver, filledWith}
+use Rattle.notes.proofs.Filled.{filled-length, filled-take}
 use Rattle.direction.proofs.Answers.{no-count, no-words, in-range, no-text, no-numbers, no-room, has-room, refused-so, done-so}
 use borrow.Author.Needs.{needs}
 use Rattle.direction.proofs.read_direction.Statement.{statement}
@@ -56,8 +55,8 @@ row-length c =
 abbrev text3 : tie.Else3 → List ℕ
 text3 c = text2 (c .before .before .before)
 
-words : (c : tie.Else3) → all isWord (directionNumbers (text3 c)) ≡ true
-words c = ap (all isWord) (sym (row-is (c .before .before .before))) ∙ sym (c .before .are-words .ensures) ∙ not-false _ (c .if3 .left)
+words : (c : tie.Else3) → all isDirectionWord (directionNumbers (text3 c)) ≡ true
+words c = ap (all isDirectionWord) (sym (row-is (c .before .before .before))) ∙ sym (c .before .are-words .ensures) ∙ not-false _ (c .if3 .left)
 
 numbers : (c : tie.Else3) → numbersRefusal (directionNumbers (text3 c)) ≡ 0
 numbers c = in-range (directionNumbers (text3 c)) (counted (c .before .before .before)) (words c)
@@ -103,7 +102,7 @@ are-words-requires c κs = search needs
 returns-3 : tie.Need-returns-3
 returns-3 c =
     let a = c .before .before .before .before .before .before .before .before .before .before .before .before .args in
-    let e = ap (all isWord) (sym (row-is (c .before .before .before))) ∙ sym (c .before .are-words .ensures) ∙ not-true _ (c .if3 .taken) in
+    let e = ap (all isDirectionWord) (sym (row-is (c .before .before .before))) ∙ sym (c .before .are-words .ensures) ∙ not-true _ (c .if3 .taken) in
     refused-so (a .text .now) (a .direction .now) 9
     (no-numbers (a .text .now) (length (a .direction .now)) (is-text (c .before .before .before .before .before .before .before .before)) 9 (no-words (directionNumbers (a .text .now)) (counted (c .before .before .before)) e))
 
@@ -129,7 +128,7 @@ write-words-requires c κs =
     let r = row-is (c .before .before .before .before .before .before) in
     let n = ap length r in
     let k = c .before .before .before .before .before .before .before .before .before .read-direction-row .ensures .0 in
-    (ap (all isWord) r ∙ words (c .before .before .before), omega (arith, n, k, c .before .before .if4 .left))
+    (ap (all isDirectionWord) r ∙ words (c .before .before .before), omega (arith, n, k, c .before .before .if4 .left))
 
 same-length : tie.Need-same-length
 same-length c = search needs

@@ -11,7 +11,7 @@ use Rattle.laws.specs.Integers.{natOf}
 use Rattle.laws.proofs.Fill.{Filled, fill-start, fill-room, fill-put, fill-count, fill-end}
 use Rattle.laws.proofs.Integers.{back}
 use Rattle.laws.proofs.Lists.{all-at}
-use Rattle.notes.specs.Book.{isWord}
+use Rattle.notes.specs.Direction.{isDirectionWord}
 use Rattle.direction.proofs.Laws.{word-fits, word-is, words-more, words-end}
 use Rattle.direction.proofs.write_words.Statement.{statement}
 use Rattle.direction.proofs.write_words.Tie as tie
@@ -35,8 +35,8 @@ shared-slice-copy-out-direction c = omega arith
 abbrev turn : tie.After-direction Inv-loop μ-loop → tie.At-loop Inv-loop μ-loop
 turn c = c .before .before
 
-word : (c : tie.After-direction Inv-loop μ-loop) → isWord (getD (turn c .before .args .row .now) (turn c .loop .i) (pos 0)) ≡ true
-word c = all-at isWord (turn c .before .args .row .now) (pos 0) (turn c .before .pre .0) (turn c .loop .i) (omega arith)
+word : (c : tie.After-direction Inv-loop μ-loop) → isDirectionWord (getD (turn c .before .args .row .now) (turn c .loop .i) (pos 0)) ≡ true
+word c = all-at isDirectionWord (turn c .before .args .row .now) (pos 0) (turn c .before .pre .0) (turn c .loop .i) (omega arith)
 
 fits : (c : tie.After-direction Inv-loop μ-loop) → length (map natOf (turn c .before .args .row .now)) ≤ length (turn c .before .args .direction .now)
 fits c = omega (arith, length-map (turn c .before .args .row .now) natOf, turn c .before .pre .1)

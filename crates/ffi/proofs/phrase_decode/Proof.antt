@@ -9,11 +9,11 @@ use mir.Val.{toZ, ofZ}
 use Rattle.decoder.specs.Core.{CoreDecodes}
 use Rattle.notes.specs.Reply.{decodedReply}
 use Rattle.notes.specs.declared.Decoded.{Decoded}
-use Rattle.text.specs.Walk.{filledWith}
+use Rattle.notes.specs.Reply.{filledWith}
 use Rattle.ffi.specs.Calls.{zeroOrRefusal, decodeReport}
 use Rattle.ffi.proofs.Codes.{code-back}
 use Rattle.ffi.proofs.Decoding.{decoded-numbers, countable}
-use Rattle.lists.proofs.Reports.{nothing}
+use Rattle.notes.proofs.Filled.{filled-none}
 use borrow.Author.Needs.{needs}
 use Rattle.ffi.proofs.phrase_decode.Statement.{statement}
 use Rattle.ffi.proofs.phrase_decode.Tie as tie
@@ -88,7 +88,7 @@ returns-2 c =
     (subst (λ (w : ℤ). CoreDecodes (a .book .now) (a .direction .now) w (length (a .steps .now) / 3) (a .words .now) (c .before .before .before .before .before .before .before .before .before .before .before .before .decode-plain .last .1 .1 .1 .1 .0) (a .store .now) (c .before .before .before .before .before .before .before .before .before .before .before .before .decode-plain .last .1 .1 .1 .1 .1 .0) (c .before .before .before .before .before .before .before .before .before .before .before .before .decode-plain .result)) back (c .before .before .before .before .before .before .before .before .before .before .before .before .decode-plain .ensures))
     (a .report .now) (a .report .now) _ (c .before .before .before .before .before .before .put-all .ensures)
     (code-back (c .code-of .result) (c .before .before .reply2 .given .0 .0) (c .code-of .ensures) ∙ sym (ap (λ (r : Decoded). zeroOrRefusal (decodedReply r)) g))
-    (nothing (a .report .now) ∙ sym (ap (λ (r : Decoded). filledWith (decodeReport r) (a .report .now)) g))
+    (filled-none (a .report .now) ∙ sym (ap (λ (r : Decoded). filledWith (decodeReport r) (a .report .now)) g))
 
 pub phrase-decode-spec : {M : Type 1} → statement M
 phrase-decode-spec =

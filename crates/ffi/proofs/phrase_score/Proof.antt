@@ -5,12 +5,12 @@ use mir.Syntax.{w64}
 use mir.Val.{toZ, ofZ}
 use lib.IntN.{ℤ}
 use Rattle.notes.specs.Reply.{Reply, scoredReply}
-use Rattle.text.specs.Walk.{filledWith}
+use Rattle.notes.specs.Reply.{filledWith}
 use Rattle.phrase.proofs.Front.{gathered-decide}
 use Rattle.lists.specs.Steps.{recordsIn}
 use Rattle.ffi.specs.Calls.{zeroOrRefusal, scoreReport}
 use Rattle.ffi.proofs.Codes.{code-back}
-use Rattle.lists.proofs.Reports.{nothing}
+use Rattle.notes.proofs.Filled.{filled-none}
 use borrow.Author.Needs.{needs}
 use Rattle.ffi.proofs.phrase_score.Statement.{statement}
 use Rattle.ffi.proofs.phrase_score.Tie as tie
@@ -56,7 +56,7 @@ returns-2 c =
     let a = c .before .before .before .before .before .before .before .before .args in
     let e = sym (ap scoredReply (c .before .before .refusal .given .1)) ∙ gathered-decide (a .book .now) (a .direction .now) (recordsIn (a .steps .now)) (c .before .before .before .before .before .gather .result) (c .before .before .before .before .score-plain .result) (c .before .before .before .before .before .gather .ensures) (c .before .before .before .before .score-plain .ensures) in (
       code-back (c .code-of .result) (c .before .before .refusal .given .0 .0) (c .code-of .ensures) ∙ ap (zeroOrRefusal {A = ℤ}) e,
-      nothing (a .report .now) ∙ ap (λ (r : Reply ℤ). filledWith (scoreReport r) (a .report .now)) e,
+      filled-none (a .report .now) ∙ ap (λ (r : Reply ℤ). filledWith (scoreReport r) (a .report .now)) e,
     )
 
 pub phrase-score-spec : {M : Type 1} → statement M

@@ -7,6 +7,7 @@ use mir.Facts.{toZ-ofZ}
 use Rattle.laws.specs.Integers.{Within}
 use Rattle.laws.proofs.Bounds.{within-fits}
 use Rattle.laws.proofs.Got.{i32}
+use Rattle.notes.specs.Bounds.{scoreMost, penaltyMost}
 use Rattle.opening.proofs.Starting.{task-is, eta-small, unseen-small}
 use Rattle.opening.proofs.task_of.Statement.{statement}
 use Rattle.opening.proofs.task_of.Tie as tie
@@ -24,13 +25,13 @@ cast-t7 : tie.Need-cast-t7
 cast-t7 c =
     let s = c .before .before .before in
     let p : i32 (c .before .number-at .result) ≡ c .before .number-at .result = search needs in
-    rw p (within-fits w64 {B = 10_000} (subst (Within 10_000) (sym (c .before .number-at .ensures)) (eta-small (s .args .book .now) (s .pre))) (omega arith))
+    rw p (within-fits w64 {B = penaltyMost} (subst (Within penaltyMost) (sym (c .before .number-at .ensures)) (eta-small (s .args .book .now) (s .pre))) (omega arith))
 
 cast-t8 : tie.Need-cast-t8
 cast-t8 c =
     let s = c .before .before .before in
     let p : i32 (c .number-at2 .result) ≡ c .number-at2 .result = search needs in
-    rw p (within-fits w64 {B = 1_000_000} (subst (Within 1_000_000) (sym (c .number-at2 .ensures)) (unseen-small (s .args .book .now) (s .pre))) (omega arith))
+    rw p (within-fits w64 {B = scoreMost} (subst (Within scoreMost) (sym (c .number-at2 .ensures)) (unseen-small (s .args .book .now) (s .pre))) (omega arith))
 
 returns : tie.Need-returns
 returns c =
@@ -39,7 +40,6 @@ returns c =
     let q : i32 (c .number-at2 .result) ≡ c .number-at2 .result = search needs in
     task-is (s .args .book .now) (s .pre) (s .args .n) (s .args .counts) _ _ _ (c .before .before .natural-at .ensures)
     (toZ-ofZ (cast-t7 c) ∙ p ∙ c .before .number-at .ensures) (toZ-ofZ (cast-t8 c) ∙ q ∙ c .number-at2 .ensures)
-
 
 pub task-of-spec : {M : Type 1} → statement M
 task-of-spec =

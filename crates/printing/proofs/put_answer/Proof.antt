@@ -1,7 +1,6 @@
--- The three parts of an answer, one after the other; the score that is printed is the one that was lent, since it fits.
+-- The three parts of an answer, one after the other.
 use mathlib.Core.Path.{sym}
 use native.Mathlib.Omega.{arith}
-use mir.Facts.{toZ-ofZ}
 use Rattle.decimals.proofs.Laws.{put-is, put-then}
 use Rattle.printing.proofs.Lines.{answer-is, answer-long}
 use borrow.Author.Needs.{needs}
@@ -11,22 +10,22 @@ use Rattle.printing.proofs.put_answer.Tie as tie
 put-counts-requires : tie.Need-put-counts-requires
 put-counts-requires c κs =
     let s = c .before .before .before .before in
-    rw (toZ-ofZ (s .fits .score)) (s .pre .0, omega (arith, answer-long (s .args .score) (s .args .states) (s .args .plain .now) (s .args .count) (s .args .words .now)))
+    (s .pre .0, omega (arith, answer-long (s .args .a) (s .args .plain .now) (s .args .words .now) (s .pre .1 .0)))
 
 put-steps-requires : tie.Need-put-steps-requires
 put-steps-requires c κs =
     let c3 = c .before .before .before in
     let s = c3 .before .before .before .before .before in
-    let put = rw (toZ-ofZ (s .fits .score)) at (c3 .put-counts .ensures) in
-    (s .pre .1 .1 .0, omega (arith, answer-long (s .args .score) (s .args .states) (s .args .plain .now) (s .args .count) (s .args .words .now), put))
+    let put = c3 .put-counts .ensures in
+    (s .pre .1 .1 .1 .0, omega (arith, answer-long (s .args .a) (s .args .plain .now) (s .args .words .now) (s .pre .1 .0), put))
 
 put-words-requires : tie.Need-put-words-requires
 put-words-requires c κs =
     let c3 = c .before .before .before in
     let c7 = c3 .before .before .before .before in
     let s = c7 .before .before .before .before .before in
-    let put = rw (toZ-ofZ (s .fits .score)) at (c7 .put-counts .ensures) in
-    (s .pre .1 .0, omega (arith, answer-long (s .args .score) (s .args .states) (s .args .plain .now) (s .args .count) (s .args .words .now), put, c3 .put-steps .ensures))
+    let put = c7 .put-counts .ensures in
+    (s .pre .1 .1 .0, omega (arith, answer-long (s .args .a) (s .args .plain .now) (s .args .words .now) (s .pre .1 .0), put, c3 .put-steps .ensures))
 
 same-length : tie.Need-same-length
 same-length c = search needs
@@ -37,8 +36,8 @@ returns c =
     let c6 = c2 .before .before .before .before in
     let c10 = c6 .before .before .before .before in
     let s = c10 .before .before .before .before .before in
-    let put = rw (toZ-ofZ (s .fits .score)) at (c10 .put-counts .ensures) in
-    put-is (sym (answer-is (s .args .score) (s .args .states) (s .args .plain .now) (s .args .count) (s .args .words .now)))
+    let put = c10 .put-counts .ensures in
+    put-is (sym (answer-is (s .args .a) (s .args .plain .now) (s .args .words .now) (s .pre .1 .0)))
     (put-then (put-then put (c6 .put-steps .ensures)) (c2 .put-words .ensures))
 
 pub put-answer-spec : {M : Type 1} → statement M

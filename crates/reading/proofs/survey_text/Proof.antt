@@ -11,7 +11,7 @@ use lib.Seq.{length-take-le}
 use Rattle.laws.proofs.Tests.{clash}
 use Rattle.notes.specs.Book.{InText, isWhole}
 use Rattle.fields.proofs.Form.{no-book}
-use Rattle.text.proofs.Row.{filled-take}
+use Rattle.notes.proofs.Filled.{filled-take}
 use Rattle.notes.proofs.Sizes.{too-long}
 use Rattle.book.proofs.Counts.{few-more}
 use Rattle.reading.proofs.Walk.{Walked, numbersAt, row-later, walk-start, walk-next, walk-bad, walk-broken, walk-end}

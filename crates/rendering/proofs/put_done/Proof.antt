@@ -4,8 +4,6 @@ use mathlib.Core.Path.{_≡_, sym}
 use native.Mathlib.Omega.{arith}
 use lib.ListN.{length, take}
 use lib.Seq.{length-take-le}
-use mir.Syntax.{w64}
-use mir.Val.{toZ, ofZ}
 use Rattle.rendering.specs.Parts.{printedDone}
 use Rattle.rendering.proofs.Short.{done-printable, done-short}
 use borrow.Author.Needs.{needs}
@@ -18,22 +16,17 @@ slice-aggregate-put-answer c = sym (length-take-le _ _ (omega arith))
 put-answer-requires : tie.Need-put-answer-requires
 put-answer-requires c κs =
     let c3 = c .before .before .before in
-    let s = c3 .before .before .before in
+    let s = c3 .before .before in
     let a = s .args .answer in
-    let back : toZ w64 (ofZ w64 (a .score)) ≡ a .score = search needs in
-    let short : length (printedDone a (s .args .numbers .now) (s .args .words .now)) ≤ 4_096 = done-short a (s .args .numbers .now) (s .args .words .now) (s .pre .1 .0) (λ i. omega (arith, c3 .before .shared-slice-known .given i)) (λ i. omega (arith, c3 .shared-slice-known2 .given i)) in
+    let short : length (printedDone a (s .args .numbers .now) (s .args .words .now)) ≤ 4_096 = done-short a (s .args .numbers .now) (s .args .words .now) (s .pre .1 .0) (λ i. omega (arith, c3 .shared-slice-known .given i)) (λ i. omega (arith, c .before .before .shared-slice-known2 .given i)) in
     let few : length (take (a .words) (s .args .words .now)) ≡ a .words = length-take-le _ _ (omega arith) in
-    rw (back, few) (done-printable a (s .pre .1 .0), (omega arith, (omega arith, omega arith)))
+    (done-printable a (s .pre .1 .0), (sym few, (omega arith, (omega arith, omega arith))))
 
 same-length : tie.Need-same-length
 same-length c = search needs
 
 returns : tie.Need-returns
-returns c =
-    let c3 = c .before .before .before in
-    let a = c3 .before .before .before .before .before .before .args .answer in
-    let back : toZ w64 (ofZ w64 (a .score)) ≡ a .score = search needs in
-    rw back at (c .before .before .put-answer .ensures)
+returns c = c .before .before .put-answer .ensures
 
 pub put-done-spec : {M : Type 1} → statement M
 put-done-spec =

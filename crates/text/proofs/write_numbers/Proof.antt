@@ -4,10 +4,10 @@ use mathlib.Core.List.{List}
 use lib.IntN.{ℤ}
 use lib.ListN.{length}
 use Rattle.notes.specs.Book.{loadedOf}
-use Rattle.text.specs.Walk.{filledWith}
+use Rattle.notes.specs.Reply.{filledWith}
 use Rattle.fields.proofs.Form.{book-run}
 use Rattle.text.proofs.Numbers.{book-numbers}
-use Rattle.text.proofs.Row.{filled-room}
+use Rattle.notes.proofs.Filled.{filled-room}
 use borrow.Author.Needs.{needs}
 use Rattle.text.proofs.write_numbers.Statement.{statement}
 use Rattle.text.proofs.write_numbers.Tie as tie

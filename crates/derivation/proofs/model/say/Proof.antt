@@ -6,6 +6,7 @@ use native.Mathlib.Omega.{arith}
 use lib.ListN.{drop}
 use Rattle.laws.specs.Integers.{Within}
 use Rattle.laws.proofs.Bounds.{within-mono}
+use Rattle.notes.specs.Bounds.{scoreMost}
 use Rattle.notes.specs.Book.{Entry}
 use Rattle.derivation.specs.Model.{silent, sayAll, PhraseOf}
 use Rattle.derivation.proofs.Says.{word-is, say-next, say-end, say-within}
@@ -18,7 +19,7 @@ use Rattle.derivation.proofs.model.word_at.Reads as word-at-reads
 
 abbrev Inv-loop : tie.InvT-loop
 Inv-loop book index t p word1 word2 s₀ j₀ s j =
-    (j ≤ p .count) × (Within (j * 1000000) (s .score)
+    (j ≤ p .count) × (Within (j * scoreMost) (s .score)
     × ((e : Entry) → PhraseOf book e p → sayAll index t s (drop j (e .target)) ≡ sayAll index t (silent word1 word2) (e .target)))
 
 abbrev μ-loop : tie.MeasureT-loop

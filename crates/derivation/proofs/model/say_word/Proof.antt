@@ -6,6 +6,7 @@ use native.Mathlib.Omega.{arith}
 use lib.IntN.{ℤ, _+ℤ_}
 use mir.Syntax.{w64}
 use Rattle.laws.proofs.Got.{Got, i64, held, add, fits, kept}
+use Rattle.notes.specs.Bounds.{scoreMost, saidBound}
 use Rattle.derivation.specs.Model.{modelScore, sayOne}
 use Rattle.derivation.specs.declared.Said.{Said}
 use Rattle.derivation.proofs.model.say_word.Statement.{statement}
@@ -18,7 +19,7 @@ triple-score-requires c κs = search needs
 -- what was said so far, and the score of the new triple
 total : (c : tie.After-triple-score)
     → let a = c .before .before .before .before .before .args in
-    Got (1000000000 + 1000000) (i64 (a .s .score) +ℤ i64 (c .triple-score .result)) (a .s .score +ℤ modelScore (a .index .now) (a .t) (a .s .word1) (a .s .word2) (a .y))
+    Got (saidBound + scoreMost) (i64 (a .s .score) +ℤ i64 (c .triple-score .result)) (a .s .score +ℤ modelScore (a .index .now) (a .t) (a .s .word1) (a .s .word2) (a .y))
 unfolding modelScore
 total c =
     let s = c .before .before .before .before .before in

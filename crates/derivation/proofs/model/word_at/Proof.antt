@@ -8,6 +8,7 @@ use mir.Syntax.{w32, w64}
 use mir.Val.{SFits}
 use Rattle.laws.proofs.Integers.{nat-neg, nat-pos, nat-cast}
 use Rattle.laws.proofs.Linear.{told}
+use Rattle.notes.specs.Bounds.{wordSpan}
 use Rattle.derivation.specs.Model.{wordIn}
 use Rattle.derivation.proofs.model.word_at.Statement.{statement}
 use Rattle.derivation.proofs.model.word_at.Tie as tie
@@ -23,7 +24,7 @@ fit c = told (c .x .given)
 
 returns : tie.Need-returns
 unfolding wordIn
-returns c = ap (λ (n : ℕ). n % 65536) (nat-neg (fit (c .before)) (c .if1 .taken))
+returns c = ap (λ (n : ℕ). n % wordSpan) (nat-neg (fit (c .before)) (c .if1 .taken))
 
 cast-result : tie.Need-cast-result
 cast-result c = nat-cast (fit (c .before)) w64 tt (c .if1 .left)
@@ -33,7 +34,7 @@ cast-result-2 c = search needs
 
 returns-2 : tie.Need-returns-2
 unfolding wordIn
-returns-2 c = ap (λ (n : ℕ). n % 65536) (nat-pos (fit (c .before)) (c .if1 .left))
+returns-2 c = ap (λ (n : ℕ). n % wordSpan) (nat-pos (fit (c .before)) (c .if1 .left))
 
 pub word-at-spec : {M : Type 1} → statement M
 word-at-spec =

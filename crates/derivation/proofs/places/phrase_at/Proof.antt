@@ -9,9 +9,10 @@ use mir.Facts.{toZ-ofZ}
 use Rattle.laws.specs.Integers.{Within}
 use Rattle.laws.proofs.Bounds.{within-fits}
 use Rattle.laws.proofs.Got.{i32}
+use Rattle.notes.specs.Bounds.{scoreMost}
 use Rattle.notes.specs.Book.{bookOf, numberAt, naturalAt}
 use Rattle.notes.specs.Derivation.{noEntry, entryAt}
-use Rattle.book.specs.Entries.{EntryAt, entryPlace}
+use Rattle.book.specs.Entries.{EntryAt}
 use Rattle.derivation.proofs.Entries.{entry-stands}
 use Rattle.derivation.proofs.places.phrase_at.Statement.{statement}
 use Rattle.derivation.proofs.places.phrase_at.Tie as tie
@@ -79,7 +80,7 @@ cast-t12 c =
     let p : i32 (c .number-at .result) ≡ c .number-at .result = search needs in
     let r : c .number-at .result ≡ numberAt (s .book .now) (at + (3 + naturalAt (s .book .now) (at + 1) + naturalAt (s .book .now) (at + 2))) =
     rw (c .before .before .natural-at .ensures, c .before .natural-at2 .ensures) at (c .number-at .ensures) in
-    rw p (within-fits w64 {B = 1_000_000} (subst (Within 1_000_000) (sym r) (h .g-within)) (omega arith))
+    rw p (within-fits w64 {B = scoreMost} (subst (Within scoreMost) (sym r) (h .g-within)) (omega arith))
 
 -- src/places.rt:12:1
 returns : tie.Need-returns
@@ -88,7 +89,6 @@ returns c =
     let p : i32 (c .number-at .result) ≡ c .number-at .result = search needs in
     entry-stands (entry (c .before .before .before)) (c .before .before .natural-at .result) (c .before .natural-at2 .result) _
     (c .before .before .natural-at .ensures) (c .before .natural-at2 .ensures) (toZ-ofZ (cast-t12 c) ∙ p ∙ c .number-at .ensures)
-
 
 pub phrase-at-spec : {M : Type 1} → statement M
 phrase-at-spec =

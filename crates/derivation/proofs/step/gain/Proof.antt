@@ -8,6 +8,8 @@ use mir.Syntax.{w64}
 use mir.Val.{toZ}
 use Rattle.laws.specs.Integers.{Within}
 use Rattle.laws.proofs.Got.{Got, i64, held, nat, add, mul, fits, kept}
+use Rattle.notes.specs.State.{gainBound}
+use Rattle.notes.specs.Bounds.{scoreMost, penaltyMost, saidBound}
 use Rattle.derivation.specs.Next.{gainBy}
 use Rattle.derivation.proofs.step.gain.Statement.{statement}
 use Rattle.derivation.proofs.step.gain.Tie as tie
@@ -16,13 +18,13 @@ module _ (c : tie.After-struct-told3) where
   abbrev b : tie.Start
   b = c .before .before .before
 
-  penalty : Got (10000 * 32) (i64 (b .args .t .eta) *ℤ toZ w64 (b .args .far)) (b .args .t .eta *ℤ pos (b .args .far))
+  penalty : Got (penaltyMost * 32) (i64 (b .args .t .eta) *ℤ toZ w64 (b .args .far)) (b .args .t .eta *ℤ pos (b .args .far))
   penalty = let e : i64 (b .args .t .eta) ≡ b .args .t .eta = search needs in mul (held e (b .pre .0)) (nat w64 (omega arith) (b .pre .1 .1 .0))
 
-  first-two : Got (1000000 + 10000 * 32) (i64 (b .args .p .g) +ℤ i64 (i64 (b .args .t .eta) *ℤ toZ w64 (b .args .far))) (b .args .p .g +ℤ b .args .t .eta *ℤ pos (b .args .far))
+  first-two : Got (scoreMost + penaltyMost * 32) (i64 (b .args .p .g) +ℤ i64 (i64 (b .args .t .eta) *ℤ toZ w64 (b .args .far))) (b .args .p .g +ℤ b .args .t .eta *ℤ pos (b .args .far))
   first-two = let e : i64 (b .args .p .g) ≡ b .args .p .g = search needs in add (held e (b .pre .1 .0)) (kept w64 penalty (omega arith))
 
-  all-three : Got (1000000 + 10000 * 32 + 8000000) (i64 (i64 (b .args .p .g) +ℤ i64 (i64 (b .args .t .eta) *ℤ toZ w64 (b .args .far))) +ℤ i64 (b .args .said .score)) (b .args .p .g +ℤ b .args .t .eta *ℤ pos (b .args .far) +ℤ b .args .said .score)
+  all-three : Got (scoreMost + penaltyMost * 32 + saidBound) (i64 (i64 (b .args .p .g) +ℤ i64 (i64 (b .args .t .eta) *ℤ toZ w64 (b .args .far))) +ℤ i64 (b .args .said .score)) (b .args .p .g +ℤ b .args .t .eta *ℤ pos (b .args .far) +ℤ b .args .said .score)
   all-three = let e : i64 (b .args .said .score) ≡ b .args .said .score = search needs in add (kept w64 first-two (omega arith)) (held e (b .pre .1 .1 .1))
 
 -- src/step.rt:37:15
@@ -44,7 +46,7 @@ add-result-2 c = fits (all-three c) (omega arith)
 -- src/step.rt:30:1
 returns : tie.Need-returns
 unfolding gainBy
-returns c = let k = kept w64 (all-three c) (omega arith) in (k .is, subst (Within 9320000) (sym (k .is)) (k .within))
+returns c = let k = kept w64 (all-three c) (omega arith) in (k .is, subst (Within gainBound) (sym (k .is)) (k .within))
 
 pub gain-spec : {M : Type 1} → statement M
 gain-spec = tie.close (tie.spec cast-result mul-result add-result add-result-2 returns)

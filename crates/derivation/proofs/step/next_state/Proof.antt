@@ -9,13 +9,14 @@ use mir.Syntax.{w64}
 use Rattle.laws.specs.Integers.{Within}
 use Rattle.laws.proofs.Bounds.{within-fits}
 use Rattle.laws.proofs.Got.{Got, i64, held, add, fits, kept}
-use Rattle.notes.specs.State.{scoreBound}
+use Rattle.notes.specs.Bounds.{scoreMost}
+use Rattle.notes.specs.State.{scoreBound, gainBound}
 use Rattle.derivation.proofs.Says.{next-is}
 use Rattle.derivation.proofs.step.next_state.Statement.{statement}
 use Rattle.derivation.proofs.step.next_state.Tie as tie
 
 total : (c : tie.After-covered-with)
-    → Got (scoreBound + 9320000) (i64 (c .before .before .before .before .before .before .args .s .score) +ℤ i64 (c .before .before .gain .result))
+    → Got (scoreBound + gainBound) (i64 (c .before .before .before .before .before .before .args .s .score) +ℤ i64 (c .before .before .gain .result))
     (c .before .before .before .before .before .before .args .s .score +ℤ c .before .before .gain .result)
 total c =
     let b = c .before .before .before .before .before .before in
@@ -42,7 +43,7 @@ gain-requires c κs =
     let p = b .pre .1 .0 in
     let j = c .jump .ensures in
     let n = b .pre .1 .1 .near in
-    (b .pre .1 .1 .eta-within, (subst (Within 1000000) (sym (p .is .g-is)) (p .is .g-within), (omega arith, c .before .before .say .ensures .1)))
+    (b .pre .1 .1 .eta-within, (subst (Within scoreMost) (sym (p .is .g-is)) (p .is .g-within), (omega arith, c .before .before .say .ensures .1)))
 
 -- src/step.rt:53:18
 covered-with-requires : tie.Need-covered-with-requires
@@ -64,7 +65,6 @@ returns c = λ e q.
     (c .before .before .before .before .before .say .result) (c .before .before .before .jump .result) (c .covered-with .result) (c .before .before .gain .result) _
     (c .before .before .before .before .before .say .ensures .0 e q) (c .before .before .before .jump .ensures) (c .covered-with .ensures) (c .before .before .gain .ensures .0)
     (kept w64 (total c) (omega arith) .is)
-
 
 pub next-state-spec : {M : Type 1} → statement M
 next-state-spec =

@@ -10,11 +10,12 @@ use Rattle.laws.specs.Integers.{eqℤ}
 use Rattle.laws.proofs.Bounds.{within-fits}
 use Rattle.laws.proofs.Linear.{signed, bits-eq, bits-ne, ne-out}
 use Rattle.laws.proofs.Got.{Got, i64, leaf, sub, fits, kept}
+use Rattle.notes.specs.State.{spreadBound}
 use Rattle.states.proofs.Answer.{within-off, within-on}
 use Rattle.states.proofs.reading.is_within.Statement.{statement}
 use Rattle.states.proofs.reading.is_within.Tie as tie
 
-less : (c : tie.After-struct-told) → Got 596480000 (i64 (c .before .before .args .top) -ℤ i64 (c .before .before .args .x .score)) (c .before .before .args .top -ℤ c .before .before .args .x .score)
+less : (c : tie.After-struct-told) → Got spreadBound (i64 (c .before .before .args .top) -ℤ i64 (c .before .before .args .x .score)) (c .before .before .args .top -ℤ c .before .before .args .x .score)
 less c = let s = c .before .before in sub (leaf (s .fits .top) (s .pre .0)) (leaf (within-fits w64 (s .pre .1) (omega arith)) (s .pre .1))
 
 sub-result : tie.Need-sub-result
