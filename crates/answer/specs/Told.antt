@@ -10,6 +10,7 @@ use Rattle.notes.specs.Direction.{wordCount}
 use Rattle.notes.specs.Reply.{writtenOver}
 use Rattle.notes.specs.Search.{fittingSteps}
 use Rattle.notes.specs.State.{Hyp}
+use Rattle.notes.specs.declared.Answer.{Answer}
 use Rattle.notes.specs.declared.Decoded.the-variants.{Done}
 use Rattle.records.specs.Plain.{stepsOf}
 use Rattle.states.specs.Back.{Chains}
@@ -32,9 +33,13 @@ pub record Ended (book : Book) (direction : List ℕ) (st : List ℤ) (k : ℕ) 
   pub state : Hyp
   pub ends : Ends book direction st k state
 
+-- the answer that the state q gives, where so many states were entered
+abbrev pub answerBy : Book → Hyp → ℕ → Answer
+answerBy book q states = record { score = q .score; steps = length (q .steps); words = length (targetWords book (q .steps)); states = states }
+
 -- what is answered of the state q: its steps, their words, its score, and how many states were entered
 pub record Told (book : Book) (q : Hyp) (states : ℕ) (words₀ words₁ : List ℕ) (r : Core) : Type 0 where
   pub steps-are : stepsOf (r .plain) ≡ q .steps
   pub count-is : r .plain .count ≡ length (q .steps)
   pub words-after : words₁ ≡ writtenOver (targetWords book (q .steps)) words₀
-  pub reply-is : r .reply ≡ Done (record { score = q .score; steps = length (q .steps); words = length (targetWords book (q .steps)); states = states })
+  pub reply-is : r .reply ≡ Done (answerBy book q states)

@@ -10,7 +10,9 @@ ghost use Rattle.book.specs.Entries.{entriesFrom, indexSize, entryPlace,
 
 // How many entries there may be, where their places begin, and how long the list is with them.
 pub const ENTRIES_MOST: usize = 4096;
+
 const ENTRIES: usize = ngrams::RECORDS_END;
+
 pub const INDEX_SIZE: usize = ENTRIES + ENTRIES_MOST;
 
 // Where entry k, counted from 0, stands in the loaded book.

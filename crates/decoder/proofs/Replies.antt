@@ -19,7 +19,7 @@ use Rattle.notes.specs.Direction.{wordCount, directionRefusal}
 use Rattle.notes.specs.Derivation.{isValid, targetWords}
 use Rattle.notes.specs.State.{Hyp, start}
 use Rattle.notes.specs.Search.{isOff, entered, lastSet, answer}
-use Rattle.notes.specs.Reply.{refused, done, reply, writtenOver, Lent, Outcome, decodedReply, beforeSearch, afterSearch, decodeRefusal, decode, decodedStore, ListsAfter}
+use Rattle.notes.specs.Reply.{refused, done, reply, writtenOver, Lent, Outcome, outcomeOf, decodedReply, beforeSearch, afterSearch, decodeRefusal, decode, decodedStore, ListsAfter}
 use Rattle.notes.specs.declared.Decoded.{Decoded}
 use Rattle.notes.specs.declared.Refusal.{Refusal}
 use Rattle.notes.specs.declared.Refusal.the-variants.{Width, StepsOrWordsTooShort, StoreTooSmall, NoDerivation, LastSetEmpty}
@@ -34,7 +34,7 @@ use Rattle.proposal.proofs.Long.{passes-short}
 use Rattle.records.specs.Plain.{stepsOf}
 use Rattle.answer.specs.declared.Core.{Core}
 use Rattle.extending.specs.Extend.{Searchable}
-use Rattle.answer.specs.Told.{Told}
+use Rattle.answer.specs.Told.{answerBy, Told}
 use Rattle.decoder.specs.Core.{refusedBy, noAnswer, Concluded, SearchedIf, CoreDecodes}
 
 -- a valid derivation has no more steps than words
@@ -121,7 +121,7 @@ module _ (loaded : List ℤ) (direction : List ℕ) (width : ℤ) (room : ℕ) (
             rw (b, d, w, l, e, z) (none-reply (isOff width) _)
 
         abbrev outcome : Hyp → Outcome
-        outcome q = record { score = q .score; states = length (entered book direction width) }
+        outcome q = outcomeOf (answerBy book q (length (entered book direction width)))
 
         with-state : (q : Hyp) → places ≡ true → answer book direction width ≡ some q → decode loaded direction width (lentOf room) ≡ done (outcome q)
         unfolding decode decodeRefusal beforeSearch afterSearch

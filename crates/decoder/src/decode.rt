@@ -103,14 +103,7 @@ fn search_for_best(
     ensures { λ r. ⌜ now (store .exit) ≡ replicate (length (now (store .entry))) (pos 0) ⌝ }
 {
     clearing::clear(store);
-    match sets::search(
-        store,
-        book,
-        direction,
-        index,
-        options,
-        job,
-    ) {
+    match sets::search(store, book, direction, index, options, job) {
         Grown::Overflow => {
             clearing::clear(store);
             refused(Refusal::StoreTooSmall)
@@ -151,13 +144,5 @@ pub fn decode_with(
         return refused(Refusal::StepsOrWordsTooShort);
     }
     options::list_options(book, index, t, direction, options);
-    search_for_best(
-        store,
-        book,
-        direction,
-        index,
-        options,
-        job,
-        words,
-    )
+    search_for_best(store, book, direction, index, options, job, words)
 }

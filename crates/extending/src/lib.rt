@@ -41,13 +41,7 @@ pub struct Turn {
 }
 
 // The place that the entry p leads to in this turn.
-fn next_place(
-    book: &[i32],
-    index: &[i32],
-    t: Task,
-    p: Phrase,
-    turn: Turn,
-) -> Place
+fn next_place(book: &[i32], index: &[i32], t: Task, p: Phrase, turn: Turn) -> Place
     requires { ⌜ Model (now index) t ⌝ }
     requires { ⌜ Phrased (now book) p ⌝ }
     requires { ⌜ CanPlace t p (turn .spot) ⌝ }
@@ -56,15 +50,7 @@ fn next_place(
     let spot = turn.spot;
     let x = spot.source.place;
     let last = spot.first + p.long - 1;
-    let state = derivation::step::next_state(
-        book,
-        index,
-        t,
-        p,
-        spot.first,
-        last,
-        x.state,
-    );
+    let state = derivation::step::next_state(book, index, t, p, spot.first, last, x.state);
     Place {
         state,
         size: x.size + p.long,
@@ -178,16 +164,7 @@ pub fn extend_all(
             first: i + 1,
             run: run[i] as usize,
         };
-        let Grown::On(more) = extend_at(
-            store,
-            c,
-            book,
-            direction,
-            index,
-            options,
-            job,
-            spot,
-        ) else {
+        let Grown::On(more) = extend_at(store, c, book, direction, index, options, job, spot) else {
             return Grown::Overflow;
         };
         c = more;

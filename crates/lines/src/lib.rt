@@ -93,7 +93,7 @@ pub fn is_score(x: i32) -> bool
 }
 
 // A word, 1 to 65,535.
-fn is_word(x: i32) -> bool
+pub fn is_word(x: i32) -> bool
     ensures { λ r. ⌜ r ≡ isWord x ⌝ }
 {
     1 <= x && x <= 65_535

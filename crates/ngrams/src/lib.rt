@@ -13,12 +13,16 @@ ghost use Rattle.ngrams.specs.Grams.{recordAt, keyAt, keysIn, triplesIn,
 
 // How many buckets there are, how many records there may be, and how many numbers a record has.
 const BUCKETS: usize = 8192;
+
 pub const RECORDS_MOST: usize = 8192;
+
 const RECORD_SIZE: usize = 4;
 
 // Where the links begin, where the records begin, and where they end.
 const LINKS: usize = BUCKETS;
+
 const RECORDS: usize = LINKS + RECORDS_MOST;
+
 pub const RECORDS_END: usize = RECORDS + RECORD_SIZE * RECORDS_MOST;
 
 // The words of an n-gram: y after v and w.

@@ -8,6 +8,7 @@ use lib.IntN.{ℤ, pos, negℤ}
 use lib.ListN.{length, getD, take, drop}
 use Rattle.laws.specs.Integers.{eqℤ, natOf}
 use Rattle.laws.specs.Lists.{all, any, keep, count, isEmpty, eqList, noneTwice, concat}
+use Rattle.notes.specs.Bounds.{wordMost, scoreMost, penaltyMost}
 use Rattle.notes.specs.Questions.{_unless_, _orelse_, withinℤ}
 use Rattle.notes.specs.Numerals.{linesOf, isEnded, isNumber, valueOf}
 
@@ -32,11 +33,11 @@ phraseSize line =
 
 -- "The scores u, g and s are −1,000,000 to 1,000,000"
 abbrev pub isScore : ℤ → Bool
-isScore z = withinℤ (negℤ (pos 1_000_000)) (pos 1_000_000) z
+isScore z = withinℤ (negℤ (pos scoreMost)) (pos scoreMost) z
 
 -- "Words are 1 to 65,535."
 abbrev pub isWord : ℤ → Bool
-isWord z = withinℤ (pos 1) (pos 65_535) z
+isWord z = withinℤ (pos 1) (pos wordMost) z
 
 -- a source or target word of a phrase
 abbrev pub isPhraseWord : ℤ → Bool
@@ -44,7 +45,7 @@ isPhraseWord z = isWord z
 
 -- the word v or w of a triple: "Word 0 is the start symbol and may stand only as v or w."
 abbrev pub isHistoryWord : ℤ → Bool
-isHistoryWord z = withinℤ (pos 0) (pos 65_535) z
+isHistoryWord z = withinℤ (pos 0) (pos wordMost) z
 
 -- the word y of a triple, its last
 abbrev pub isLastWord : ℤ → Bool
@@ -54,7 +55,7 @@ isLastWord z = isWord z
 abbrev pub rangesB : List ℤ → Bool
 rangesB line =
     withinℤ (pos 0) (pos 32) (numberAt line 1)
-    && withinℤ (negℤ (pos 10_000)) (pos 10_000) (numberAt line 2)
+    && withinℤ (negℤ (pos penaltyMost)) (pos penaltyMost) (numberAt line 2)
     && isScore (numberAt line 3)
 
 -- after the kind, a and b: words, and the score as the last

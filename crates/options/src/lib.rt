@@ -20,6 +20,7 @@ ghost use Rattle.options.specs.Options.{optionsFrom, optionsSize, startA
 // Where the entry numbers of the options stand in the list: behind 33 starts of two numbers each; and how long the list is, with room for
 // every entry at every position.
 const OPTIONS_FROM: usize = 66;
+
 pub const OPTIONS_SIZE: usize = OPTIONS_FROM + 32 * entries::ENTRIES_MOST;
 
 // Where the options of the position i + 1 begin, counted in options; with i the number of words, how many options there are.
@@ -112,13 +113,7 @@ pub fn list_at(
 }
 
 // Every step that fits, by first position and then by entry, and where the options of each first position begin.
-pub fn list_options(
-    book: &[i32],
-    index: &[i32],
-    t: Task,
-    direction: &[u16],
-    options: &mut [u16],
-)
+pub fn list_options(book: &[i32], index: &[i32], t: Task, direction: &[u16], options: &mut [u16])
     requires { ⌜ EntriesAt (now book) (now index) (t .phrases) ⌝ }
     requires { ⌜ length (now direction) ≤ 32 ⌝ }
     requires { ⌜ optionsSize ≤ length (now options) ⌝ }

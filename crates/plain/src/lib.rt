@@ -1,8 +1,8 @@
 // Decoding on plain numbers, with all that a search needs in local arrays: about 460,000 bytes of stack.
 use answer::Core;
+use book::entries::INDEX_SIZE;
 use decoder::decode;
 use extending::Job;
-use book::entries::INDEX_SIZE;
 use opening::Start;
 ghost use Rattle.decoder.specs.Core.{CoreDecodes};
 

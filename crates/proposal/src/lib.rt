@@ -97,16 +97,7 @@ pub fn score_steps(
         let first = steps[3 * i];
         let last = steps[3 * i + 1];
         let entry = steps[3 * i + 2];
-        match ask_step(
-            book,
-            index,
-            t,
-            direction,
-            s,
-            first,
-            last,
-            entry,
-        ) {
+        match ask_step(book, index, t, direction, s, first, last, entry) {
             Asked::Next(next) => s = next,
             Asked::Refused(refusal) => return Scored::Refused(refusal),
         }

@@ -1,6 +1,6 @@
 // Scoring a proposed list on plain numbers, with what the book and the direction say in local arrays: about 200,000 bytes of stack.
-use notes::Scored;
 use book::entries::INDEX_SIZE;
+use notes::Scored;
 use opening::Start;
 use records::Plain;
 ghost use mathlib.Core.Path.{_≡_};
@@ -17,14 +17,7 @@ pub fn score_plain(book: &[i32], direction: &[u16], plain: Plain) -> Scored
     let steps = plain.numbers;
     let count = plain.count;
     match opening::open_and_begin(book, direction, &mut index) {
-        Start::Ready(t) => proposal::score_steps(
-            book,
-            &index,
-            t,
-            direction,
-            &steps,
-            count,
-        ),
+        Start::Ready(t) => proposal::score_steps(book, &index, t, direction, &steps, count),
         Start::Refused(refusal) => Scored::Refused(refusal),
     }
 }

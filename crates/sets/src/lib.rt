@@ -50,16 +50,7 @@ fn visit(
         place: x,
         at: candidate.at,
     };
-    extending::extend_all(
-        store,
-        count,
-        book,
-        direction,
-        index,
-        options,
-        job,
-        source,
-    )
+    extending::extend_all(store, count, book, direction, index, options, job, source)
 }
 
 // The set i is extended: the states that cover i words, in the order in which they were entered.
@@ -83,16 +74,8 @@ fn level(
     let mut j = 0;
     while j < count {
         let candidate = Candidate { at: j, set: i, top };
-        let Grown::On(more) = visit(
-            store,
-            c,
-            book,
-            direction,
-            index,
-            options,
-            job,
-            candidate,
-        ) else {
+        let Grown::On(more) = visit(store, c, book, direction, index, options, job, candidate)
+        else {
             return Grown::Overflow;
         };
         c = more;
@@ -130,16 +113,7 @@ pub fn search(
     let mut c = 1;
     let mut i = 0;
     while i < job.task.n {
-        let Grown::On(more) = level(
-            store,
-            c,
-            book,
-            direction,
-            index,
-            options,
-            job,
-            i,
-        ) else {
+        let Grown::On(more) = level(store, c, book, direction, index, options, job, i) else {
             return Grown::Overflow;
         };
         c = more;

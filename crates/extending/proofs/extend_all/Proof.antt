@@ -88,7 +88,6 @@ same-length-2 c = search needs
 returns-2 : tie.Need-returns-2 Inv-loop μ-loop
 returns-2 c = let s = c .before .before .before .before .before .before .before in let l = c .before .before .loop in ended _ _ _ (all-done (s .pre .0) (l .i) (l .inv .0) (c .if1 .left)) (l .inv .1 .1)
 
-
 pub extend-all-spec : {M : Type 1} → statement M
 extend-all-spec =
     tie.close

@@ -34,6 +34,5 @@ returns c = λ e q.
     let a = c .before .before .before .before .before .before .before .args in
     ap {B = Place} (λ (z : State). record { state = z; size = a .turn .spot .source .place .size + a .p .long; parent = a .turn .spot .source .at; option = a .turn .option }) (c .before .before .next-state .ensures e q)
 
-
 pub next-place-spec : {M : Type 1} → statement M
 next-place-spec = tie.close (tie.spec add-last sub-last next-state-requires add-t10 returns)

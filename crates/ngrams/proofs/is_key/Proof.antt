@@ -29,18 +29,18 @@ natural-in-requires-3 : tie.Need-natural-in-requires-3
 natural-in-requires-3 c κs = search needs
 
 returns : tie.Need-returns
-returns c = 
+returns c =
     let s = c .before .before .before .before .before .before .before .before .args in
     ap (λ (z : ℕ). eqb z (s .key .y)) (c .before .natural-in3 .ensures)
     ∙ holds-third (s .index .now) (s .key) (s .k) (sym (c .before .before .before .before .before .before .before .natural-in .ensures) ∙ c .before .before .before .before .before .if1 .taken) (sym (c .before .before .before .before .natural-in2 .ensures) ∙ c .before .before .if2 .taken)
 
 returns-2 : tie.Need-returns-2
-returns-2 c = 
+returns-2 c =
     let s = c .before .before .before .before .before .before .args in
     holds-second (s .index .now) (s .key) (s .k) (sym (c .before .before .before .before .before .natural-in .ensures) ∙ c .before .before .before .if1 .taken) (λ e. c .if2 .left (c .before .before .natural-in2 .ensures ∙ e))
 
 returns-3 : tie.Need-returns-3
-returns-3 c = 
+returns-3 c =
     let s = c .before .before .before .args in
     holds-first (s .index .now) (s .key) (s .k) (λ e. c .if1 .left (c .before .before .natural-in .ensures ∙ e))
 

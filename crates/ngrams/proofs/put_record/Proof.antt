@@ -65,7 +65,7 @@ same-length c = search needs
 
 returns : tie.Need-returns
 unfolding putRecord
-returns c = 
+returns c =
     rw (
       back w32 (c .before .before .before .number-at .result) (c .before .before .before .number-at .ok) ∙ c .before .before .before .number-at .ensures,
       back w32 (c .before .before .number-at2 .result) (c .before .before .number-at2 .ok) ∙ c .before .before .number-at2 .ensures,

@@ -59,7 +59,6 @@ returns c = rw (toZ-ofZ (c .before .before .before .before .before .before .befo
 returns-2 : tie.Need-returns-2
 returns-2 c = refused-core _ _ _ _ _ _ _ (rw (c .before .before .refusal .given .1) at (c .before .before .before .before .before .open-and-begin .ensures)) (c .refused .ensures)
 
-
 pub decode-plain-spec : {M : Type 1} → statement M
 decode-plain-spec =
     tie.close

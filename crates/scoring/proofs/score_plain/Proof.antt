@@ -45,7 +45,6 @@ returns-2 c =
     let a = c .before .before .before .before .before .before .before .before .args in
     refused-before (a .book .now) (a .direction .now) (stepsOf (a .plain)) (c .before .refusal .given .0 .0) (rw (c .before .refusal .given .1) at (c .before .before .before .before .open-and-begin .ensures))
 
-
 pub score-plain-spec : {M : Type 1} → statement M
 score-plain-spec =
     tie.close

@@ -46,9 +46,10 @@ loop-again : tie.Need-loop-again Inv-loop μ-loop
 loop-again c =
     let said = c .before .before .put-place .ensures in
     let s = c .before .before .before .before .before .before in
-    let l = c .before .before .before .before .before .loop in
-    (rw (said .0, said .1, c .size-at .ensures) (found-next (l .inv .0) (here (c .before .before .before .before)) (omega (arith, l .inv .1 .size, s .pre .1))),
-    rw (said .1) (below-then (l .inv .1) (place-kept (s .args .book .now) (l .index) (l .at) (l .count))))
+    let l = c .before .before .before .before .before .loop in (
+      rw (said .0, said .1, c .size-at .ensures) (found-next (l .inv .0) (here (c .before .before .before .before)) (omega (arith, l .inv .1 .size, s .pre .1))),
+      rw (said .1) (below-then (l .inv .1) (place-kept (s .args .book .now) (l .index) (l .at) (l .count))),
+    )
 
 same-length : tie.Need-same-length Inv-loop μ-loop
 same-length c = c .before .loop .inv .1 .size
