@@ -14,28 +14,28 @@ use native.Mathlib.Numerals.{add-one}
 use Rattle.laws.proofs.Fill.{Filled, fill-put, fill-count, fill-end, over-more}
 use Rattle.laws.specs.Lists.{concat}
 use Rattle.laws.proofs.Lists.{drop-next, take-next, concat-++, getD-mem}
-use Rattle.notes.specs.Book.{Book, bookOf}
-use Rattle.notes.specs.Derivation.{noStep, entryAt, targetWords}
-use Rattle.notes.specs.Direction.{wordCount}
-use Rattle.notes.specs.Reply.{writtenOver}
-use Rattle.notes.specs.Search.{stepAt, fittingSteps}
-use Rattle.notes.specs.State.{Hyp}
-use Rattle.notes.specs.declared.Step.{Step}
-use Rattle.notes.proofs.Steps.{fits-facts, listed-fits}
+use Rattle.meaning.specs.Book.{Book, bookOf}
+use Rattle.meaning.specs.Derivation.{noStep, entryAt, targetWords}
+use Rattle.meaning.specs.Direction.{wordCount}
+use Rattle.meaning.specs.Reply.{writtenOver}
+use Rattle.meaning.specs.Search.{stepAt, fittingSteps}
+use Rattle.meaning.specs.State.{Hyp}
+use Rattle.meaning.specs.declared.Step.{Step}
+use Rattle.meaning.proofs.Steps.{fits-facts, listed-fits}
 use Rattle.records.specs.Plain.{stepIn, stepsTo, stepsOf, unlessFull, withStep, Added}
 use Rattle.records.specs.declared.Plain.{Plain}
 use Rattle.records.proofs.Laws.{count-steps}
 use Rattle.derivation.specs.Model.{WordsAt, wordIn, PhraseOf}
 use Rattle.derivation.specs.declared.Phrase.{Phrase}
-use Rattle.derivation.specs.declared.Task.{Task}
+use Rattle.derivation.specs.declared.Setup.{Setup}
 use Rattle.states.specs.Back.{Leads, Way}
 use Rattle.states.specs.Ghost.{optionAt}
 use Rattle.states.specs.Shows.{nobody}
-use Rattle.notes.specs.declared.Decoded.the-variants.{Done}
+use Rattle.meaning.specs.declared.Decoded.the-variants.{Done}
 use Rattle.store.specs.Store.{placeAt}
 use Rattle.answer.specs.Told.{Ends, Told}
 use Rattle.extending.specs.Extend.{Choices}
-use Rattle.derivation.proofs.Says.{word-is}
+use Rattle.derivation.proofs.Rows.{word-is}
 use Rattle.options.specs.Options.{optionsFrom, startAt, optionIn}
 
 -- ════ the position of an option
@@ -48,7 +48,7 @@ below-end options i n o a b h = by (ℕ-discrete i n)
     by (yes e) = let c : o < startAt options i = rw e b in absurd (omega arith)
     by (no q) = omega arith
 
-module _ {loaded : List ℤ} {direction : List ℕ} {index : List ℤ} {options : List ℕ} {t : Task} (C : Choices loaded direction index options t)
+module _ {loaded : List ℤ} {direction : List ℕ} {index : List ℤ} {options : List ℕ} {t : Setup} (C : Choices loaded direction index options t)
     {o : ℕ} (ho : o < length (fittingSteps (bookOf loaded) direction)) where
   pub option-to : o < startAt options (t .n)
   option-to = let e = C .options-of .ends in let n = C .n-is in rw n (omega arith)
@@ -183,7 +183,7 @@ module _ {book : Book} {direction : List ℕ} {st : List ℤ} {k : ℕ} {q : Hyp
         ∙ way-is (optionAt book direction) out (getD (E .list) k nobody .steps) (omega arith) (λ i g. W .step-is i (omega arith)) ∙ steps-same
 
 -- each of the steps has an entry of the book
-module _ {loaded : List ℤ} {direction : List ℕ} {index : List ℤ} {options : List ℕ} {t : Task} (C : Choices loaded direction index options t) where
+module _ {loaded : List ℤ} {direction : List ℕ} {index : List ℤ} {options : List ℕ} {t : Setup} (C : Choices loaded direction index options t) where
   pub step-entry : (plain : Plain) (out : List ℕ) (d : ℕ) → (plain .count ≡ d) × (stepsOf plain ≡ map (optionAt (bookOf loaded) direction) (take d out))
       → ((i : ℕ) → i < d → getD out i 0 < length (fittingSteps (bookOf loaded) direction))
       → (i : ℕ) → i < plain .count → (1 ≤ stepIn plain i .entry) × (stepIn plain i .entry ≤ t .phrases)

@@ -4,20 +4,20 @@ use mathlib.Core.Path.{_≡_}
 use mathlib.Core.List.{List}
 use lib.IntN.{ℤ}
 use lib.ListN.{length, getD}
-use Rattle.notes.specs.Book.{Book}
-use Rattle.notes.specs.Derivation.{targetWords}
-use Rattle.notes.specs.Direction.{wordCount}
-use Rattle.notes.specs.Reply.{writtenOver}
-use Rattle.notes.specs.Search.{fittingSteps}
-use Rattle.notes.specs.State.{Hyp}
-use Rattle.notes.specs.declared.Answer.{Answer}
-use Rattle.notes.specs.declared.Decoded.the-variants.{Done}
+use Rattle.meaning.specs.Book.{Book}
+use Rattle.meaning.specs.Derivation.{targetWords}
+use Rattle.meaning.specs.Direction.{wordCount}
+use Rattle.meaning.specs.Reply.{writtenOver}
+use Rattle.meaning.specs.Search.{fittingSteps}
+use Rattle.meaning.specs.State.{Hyp}
+use Rattle.meaning.specs.declared.Answer.{Answer}
+use Rattle.meaning.specs.declared.Decoded.the-variants.{Done}
 use Rattle.records.specs.Plain.{stepsOf}
 use Rattle.states.specs.Back.{Chains}
 use Rattle.states.specs.Ghost.{optionAt}
 use Rattle.states.specs.Shows.{nobody, Shows}
 use Rattle.store.specs.Store.{placeAt}
-use Rattle.answer.specs.declared.Core.{Core}
+use Rattle.answer.specs.declared.PlainReply.{PlainReply}
 
 -- the place k of the store holds the state q of the search, and the parents' places lead from it to the start
 pub record Ends (book : Book) (direction : List ℕ) (st : List ℤ) (k : ℕ) (q : Hyp) : Type 0 where
@@ -38,7 +38,7 @@ abbrev pub answerBy : Book → Hyp → ℕ → Answer
 answerBy book q states = record { score = q .score; steps = length (q .steps); words = length (targetWords book (q .steps)); states = states }
 
 -- what is answered of the state q: its steps, their words, its score, and how many states were entered
-pub record Told (book : Book) (q : Hyp) (states : ℕ) (words₀ words₁ : List ℕ) (r : Core) : Type 0 where
+pub record Told (book : Book) (q : Hyp) (states : ℕ) (words₀ words₁ : List ℕ) (r : PlainReply) : Type 0 where
   pub steps-are : stepsOf (r .plain) ≡ q .steps
   pub count-is : r .plain .count ≡ length (q .steps)
   pub words-after : words₁ ≡ writtenOver (targetWords book (q .steps)) words₀

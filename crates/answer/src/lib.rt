@@ -1,30 +1,30 @@
 // The answer: the best state's steps as plain numbers, and their target words.
 use derivation::Phrase;
-use derivation::Task;
-use notes::Answer;
-use notes::Decoded;
-use notes::Step;
+use derivation::Setup;
+use meaning::Answer;
+use meaning::Decoded;
+use meaning::Step;
 use records::Plain;
 ghost use mathlib.Core.Path.{_≡_};
 ghost use mathlib.Core.List.{map};
 ghost use Prim.Native.Nat.{ℕ, _+_, _*_, _≤_, _<_};
 ghost use lib.ListN.{length, getD, take};
-ghost use Rattle.notes.specs.Book.{Entry, bookOf};
-ghost use Rattle.notes.specs.Reply.{writtenOver};
-ghost use Rattle.notes.specs.Search.{fittingSteps};
+ghost use Rattle.meaning.specs.Book.{Entry, bookOf};
+ghost use Rattle.meaning.specs.Reply.{writtenOver};
+ghost use Rattle.meaning.specs.Search.{fittingSteps};
 ghost use Rattle.derivation.specs.Model.{PhraseOf, Phrased};
-ghost use Rattle.notes.specs.Derivation.{targetWords};
+ghost use Rattle.meaning.specs.Derivation.{targetWords};
 ghost use Rattle.book.specs.Entries.{EntriesAt};
 ghost use Rattle.options.specs.Options.{optionsFrom, startAt};
 ghost use Rattle.records.specs.Plain.{stepIn, stepsOf};
 ghost use Rattle.states.specs.Ghost.{optionAt};
-ghost use Rattle.notes.specs.Direction.{wordCount};
-ghost use Rattle.notes.specs.State.{Hyp};
+ghost use Rattle.meaning.specs.Direction.{wordCount};
+ghost use Rattle.meaning.specs.State.{Hyp};
 ghost use Rattle.answer.specs.Told.{Ends, Ended, Told};
 ghost use Rattle.extending.specs.Extend.{Choices};
 
 // What a decode answers on plain numbers: the steps to write, none on a refusal, and the reply.
-pub struct Core {
+pub struct PlainReply {
     pub plain: Plain,
     pub reply: Decoded,
 }
@@ -48,7 +48,7 @@ fn step_of(
     direction: &[u16],
     index: &[i32],
     options: &[u16],
-    t: Task,
+    t: Setup,
     o: usize,
 ) -> Step
     requires { ⌜ Choices (now book) (now direction) (now index) (now options) t ⌝ }
@@ -84,7 +84,7 @@ fn steps_of(
     direction: &[u16],
     index: &[i32],
     options: &[u16],
-    t: Task,
+    t: Setup,
     way: &[usize],
     d: usize,
 ) -> Plain
@@ -143,9 +143,9 @@ pub fn trace(
     direction: &[u16],
     index: &[i32],
     options: &[u16],
-    t: Task,
+    t: Setup,
     words: &mut [u16],
-) -> Core
+) -> PlainReply
     requires { ⌜ Choices (now book) (now direction) (now index) (now options) t ⌝ }
     requires { ⌜ Ended (bookOf (now book)) (now direction) (now store) (best .at) ⌝ }
     requires { ⌜ 8 * wordCount (now direction) ≤ length (now words) ⌝ }
@@ -156,7 +156,7 @@ pub fn trace(
     let plain = steps_of(book, direction, index, options, t, &way, d);
     let many = write_words(book, index, t.phrases, plain, words);
     let x = store::places::place_at(store, best.at);
-    Core {
+    PlainReply {
         plain,
         reply: Decoded::Done(Answer {
             score: x.state.score,

@@ -12,8 +12,8 @@ use Rattle.laws.specs.Lists.{all, any, count}
 use Rattle.laws.proofs.Bits.{one-le}
 use Rattle.laws.proofs.Lists.{count-cons, count-none}
 use Rattle.laws.proofs.Tests.{same-test}
-use Rattle.notes.specs.Questions.{_unless_, _orelse_}
-use Rattle.notes.specs.Book.{Form, phrasesMost, triplesMost, isKind, isB, isP, isT, isWhole, isOneBFirst, isInRange, isNotTooLong, isNoTripleTwice, linesRefusal}
+use Rattle.meaning.specs.Questions.{_unless_, _orelse_}
+use Rattle.meaning.specs.Book.{Form, phrasesMost, triplesMost, isKind, isB, isP, isT, isWhole, isOneBFirst, isInRange, isNotTooLong, isNoTripleTwice, linesRefusal}
 use Rattle.book.specs.declared.survey.Survey.{Survey}
 use Rattle.book.specs.Survey.{fresh, withLine, surveyFrom, surveyRefusal, Few}
 

@@ -12,8 +12,8 @@ use lib.Seq.{getD-take, getD-drop, take-all, drop-drop, length-take-le}
 use Rattle.laws.specs.Integers.{eqℤ}
 use Rattle.laws.specs.Lists.{all}
 use Rattle.laws.proofs.Tests.{by-test, clash}
-use Rattle.notes.specs.Book.{InList, numberAt, isP, sizeOf, isWhole, cutLines, loadedLines}
-use Rattle.notes.proofs.Sizes.{size-from}
+use Rattle.meaning.specs.Book.{InList, numberAt, isP, sizeOf, isWhole, cutLines, loadedLines}
+use Rattle.meaning.proofs.Sizes.{size-from}
 use Rattle.book.specs.Loaded.{sizeAt}
 
 -- ---- the size

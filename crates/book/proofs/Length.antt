@@ -10,9 +10,9 @@ use lib.ListN.{length, take, drop}
 use borrow.Author.Tests.{leb-true, leb-false}
 use Rattle.laws.specs.Lists.{all}
 use Rattle.laws.proofs.Tests.{both, by-test}
-use Rattle.notes.specs.Book.{InList, isWhole, loadedLines, bookRefusal}
-use Rattle.notes.proofs.Ranges.{lines-passed}
-use Rattle.notes.proofs.Sizes.{size-to, passed-few}
+use Rattle.meaning.specs.Book.{InList, isWhole, loadedLines, bookRefusal}
+use Rattle.meaning.proofs.Ranges.{lines-passed}
+use Rattle.meaning.proofs.Sizes.{size-to, passed-few}
 use Rattle.book.specs.Loaded.{sizeAt}
 use Rattle.book.proofs.Cuts.{LineAt, line-here}
 

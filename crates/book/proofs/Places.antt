@@ -14,10 +14,10 @@ use Rattle.laws.specs.Integers.{Within, natOf}
 use Rattle.laws.specs.Lists.{all, keep, count}
 use Rattle.laws.proofs.Lists.{all-at, part-part, dropLast-length, dropLast-getD, keep-length}
 use Rattle.laws.proofs.Tests.{by-test, both}
-use Rattle.notes.specs.Bounds.{scoreMost}
-use Rattle.notes.specs.Book.{InList, Entry, numberAt, naturalAt, isP, isPhraseWord, isWhole, isInRange, isNotTooLong, wordsAt, entryOf, bookOf, bookOfLines, bookRefusal, loadedLines}
-use Rattle.notes.specs.Derivation.{noEntry}
-use Rattle.notes.proofs.Ranges.{lines-passed, PLine, p-line}
+use Rattle.meaning.specs.Bounds.{scoreMost}
+use Rattle.meaning.specs.Book.{InList, Entry, numberAt, naturalAt, isP, isPhraseWord, isWhole, isInRange, isNotTooLong, wordsAt, entryOf, bookOf, bookOfLines, bookRefusal, loadedLines}
+use Rattle.meaning.specs.Derivation.{noEntry}
+use Rattle.meaning.proofs.Ranges.{lines-passed, PLine, p-line}
 use Rattle.ngrams.specs.Parts.{naturalIn, KeptBelow}
 use Rattle.ngrams.proofs.Parts.{below-all, below-set}
 use Rattle.book.specs.Entries.{EntryAt, entriesMost, entriesFrom, indexSize, entryPlace, EntriesAt, withPlace}

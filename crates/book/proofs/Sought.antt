@@ -14,8 +14,8 @@ use Rattle.laws.specs.Lists.{all}
 use Rattle.laws.proofs.Lists.{part-size}
 use Rattle.laws.proofs.Order.{yes-≡}
 use Rattle.laws.proofs.Tests.{by-test, both}
-use Rattle.notes.specs.Book.{InList, numberAt, naturalAt, isP, isPhraseLength, sizeOf, isWhole, loadedLines, Part, targetPartFrom, partOf, bookRefusal, targetPart}
-use Rattle.notes.proofs.Ranges.{lines-passed}
+use Rattle.meaning.specs.Book.{InList, numberAt, naturalAt, isP, isPhraseLength, sizeOf, isWhole, loadedLines, Part, targetPartFrom, partOf, bookRefusal, targetPart}
+use Rattle.meaning.proofs.Ranges.{lines-passed}
 use Rattle.book.specs.declared.target.Part.{Part as Found}
 use Rattle.book.specs.Target.{IsPart}
 use Rattle.book.proofs.Cuts.{LineAt, lines-end, line-number, kind-same, line-long}

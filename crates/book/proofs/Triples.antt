@@ -12,7 +12,7 @@ use Rattle.laws.specs.Bits.{one}
 use Rattle.laws.specs.Lists.{keep, count}
 use Rattle.laws.proofs.Lists.{count-cons}
 use Rattle.laws.proofs.Tests.{by-test}
-use Rattle.notes.specs.Book.{numberAt, isT}
+use Rattle.meaning.specs.Book.{numberAt, isT}
 use Rattle.ngrams.specs.Parts.{recordsMost, recordsEnd}
 use Rattle.ngrams.specs.Grams.{recordAt, putRecord}
 use Rattle.ngrams.proofs.Records.{put-long, put-far, put-near}

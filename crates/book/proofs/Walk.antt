@@ -7,7 +7,7 @@ use mathlib.Core.List.{List, []}
 use lib.IntN.{ℤ}
 use lib.ListN.{length, take, drop, drop-of-length-le}
 use Rattle.laws.specs.Lists.{all}
-use Rattle.notes.specs.Book.{InList, isWhole, loadedLines}
+use Rattle.meaning.specs.Book.{InList, isWhole, loadedLines}
 use Rattle.book.specs.declared.survey.Survey.{Survey}
 use Rattle.book.specs.Survey.{fresh, withLine, surveyFrom, Few}
 use Rattle.book.specs.Grams.{withGram, gramsFrom}

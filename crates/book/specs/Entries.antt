@@ -6,9 +6,9 @@ use mathlib.Core.List.{List}
 use lib.IntN.{ℤ, pos}
 use lib.ListN.{length, getD, set, drop}
 use Rattle.laws.specs.Integers.{Within}
-use Rattle.notes.specs.Bounds.{scoreMost}
-use Rattle.notes.specs.Book.{Entry, numberAt, naturalAt, phrasesMost, isP, isPhraseWord, wordsAt, entryOf, bookOf}
-use Rattle.notes.specs.Derivation.{noEntry}
+use Rattle.meaning.specs.Bounds.{scoreMost}
+use Rattle.meaning.specs.Book.{Entry, numberAt, naturalAt, phrasesMost, isP, isPhraseWord, wordsAt, entryOf, bookOf}
+use Rattle.meaning.specs.Derivation.{noEntry}
 use Rattle.ngrams.specs.Parts.{recordsEnd, naturalIn, KeptBelow}
 
 -- the P line of an entry stands at `at`: a and b, then the a source words, the b target words, and g

@@ -5,7 +5,7 @@ use mathlib.Core.List.{List, [], _∷_}
 use lib.Dec.{ltb}
 use lib.IntN.{ℤ}
 use Rattle.laws.specs.Bits.{one}
-use Rattle.notes.specs.Book.{isT}
+use Rattle.meaning.specs.Book.{isT}
 use Rattle.ngrams.specs.Parts.{recordsMost}
 use Rattle.ngrams.specs.Grams.{putRecord}
 

@@ -7,7 +7,7 @@ use lib.Dec.{leb}
 use lib.IntN.{ℤ}
 use lib.ListN.{length, drop}
 use Rattle.laws.specs.Lists.{all}
-use Rattle.notes.specs.Book.{InList, sizeOf, isWhole, loadedLines}
+use Rattle.meaning.specs.Book.{InList, sizeOf, isWhole, loadedLines}
 use Rattle.book.specs.declared.loaded.Surveyed.{Surveyed}
 use Rattle.book.specs.declared.loaded.Surveyed.the-variants.{Whole, Broken}
 use Rattle.book.specs.Survey.{fresh, surveyFrom}

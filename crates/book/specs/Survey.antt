@@ -5,8 +5,8 @@ use mathlib.Core.List.{List, [], _∷_}
 use lib.Dec.{eqb, leb}
 use lib.IntN.{ℤ}
 use Rattle.laws.specs.Bits.{one}
-use Rattle.notes.specs.Questions.{_unless_, _orelse_}
-use Rattle.notes.specs.Book.{phrasesMost, triplesMost, isB, isP, isT, isInRange}
+use Rattle.meaning.specs.Questions.{_unless_, _orelse_}
+use Rattle.meaning.specs.Book.{phrasesMost, triplesMost, isB, isP, isT, isInRange}
 use Rattle.book.specs.declared.survey.Survey.{Survey}
 
 -- no line was seen

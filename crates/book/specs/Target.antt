@@ -5,7 +5,7 @@ use mathlib.Core.List.{List}
 use denote.Ref.{RefT, now}
 use lib.IntN.{ℤ}
 use lib.ListN.{length}
-use Rattle.notes.specs.Book.{Part, partOf}
+use Rattle.meaning.specs.Book.{Part, partOf}
 use Rattle.book.specs.declared.target.Part.{Part as Found}
 
 -- it is that part, and it lies within the list

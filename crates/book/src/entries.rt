@@ -5,7 +5,7 @@ ghost use mathlib.Core.Bool.{true};
 ghost use Prim.Native.Nat.{_+_, _^_, _≤_, _<_};
 ghost use lib.ListN.{length, drop};
 ghost use Rattle.laws.specs.Bits.{one};
-ghost use Rattle.notes.specs.Book.{isP, bookRefusal};
+ghost use Rattle.meaning.specs.Book.{isP, bookRefusal};
 ghost use Rattle.book.specs.Entries.{entriesFrom, indexSize, entryPlace, withPlace, Placed};
 
 // How many entries there may be, where their places begin, and how long the list is with them.

@@ -5,7 +5,7 @@ use crate::survey::Survey;
 ghost use mathlib.Core.Path.{_≡_};
 ghost use Prim.Native.Nat.{_≤_};
 ghost use lib.ListN.{length, drop};
-ghost use Rattle.notes.specs.Book.{isP};
+ghost use Rattle.meaning.specs.Book.{isP};
 ghost use Rattle.ngrams.specs.Parts.{recordsEnd};
 ghost use Rattle.book.specs.Loaded.{sizeAt, SurveyOf};
 

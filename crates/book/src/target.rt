@@ -6,7 +6,7 @@ ghost use Prim.Native.Nat.{_-_, _≤_};
 ghost use lib.Dec.{eqb};
 ghost use lib.ListN.{length, drop};
 ghost use Rattle.laws.specs.Lists.{all};
-ghost use Rattle.notes.specs.Book.{InList, isP, isWhole, loadedLines, targetPartFrom};
+ghost use Rattle.meaning.specs.Book.{InList, isP, isWhole, loadedLines, targetPartFrom};
 ghost use Rattle.book.specs.Target.{IsPart};
 
 // A part of a list: where it starts, and how many numbers it has.

@@ -1,6 +1,6 @@
 // What the lists that are lent are full of before the call: numbers that count up from one that the case says, so that no two beside
 // each other are the same.
-use notes::Step;
+use meaning::Step;
 ghost use mathlib.Core.Path.{_≡_};
 ghost use lib.ListN.{length};
 

@@ -4,7 +4,7 @@
 ghost use mathlib.Core.Path.{_≡_};
 ghost use Prim.Native.Nat.{_≤_};
 ghost use lib.ListN.{length, take};
-use notes::Step;
+use meaning::Step;
 
 // Digits that were read, and the place behind them.
 struct Digits {

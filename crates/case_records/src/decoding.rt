@@ -1,10 +1,10 @@
 // A list of step records, lent to decode into.
-use notes::Decoded;
-use notes::Step;
+use meaning::Decoded;
+use meaning::Step;
 ghost use mathlib.Core.Path.{_≡_};
 ghost use Prim.Native.Nat.{_≤_};
 ghost use lib.ListN.{take, drop};
-ghost use Rattle.notes.specs.Reply.{Decodes};
+ghost use Rattle.meaning.specs.Reply.{Decodes};
 
 // What decoding replies, and the steps afterwards.
 pub struct Asked {

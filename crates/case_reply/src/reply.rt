@@ -1,16 +1,16 @@
 // What a call replied.
 use crate::say;
-use notes::Answer;
-use notes::Checked;
-use notes::Decoded;
-use notes::Read;
-use notes::Refusal;
-use notes::Scored;
+use meaning::Answer;
+use meaning::Checked;
+use meaning::Decoded;
+use meaning::Read;
+use meaning::Refusal;
+use meaning::Scored;
 
 // `R,` and the refusal's number.
 fn refused(refusal: Refusal) {
     say::word(b"R,");
-    say::decimal(notes::number_of(refusal) as u64);
+    say::decimal(meaning::number_of(refusal) as u64);
 }
 
 // How many numbers were read.

@@ -8,7 +8,7 @@ use case_fill::wide_word;
 use case_line::line;
 use case_reply::say;
 use lines::natural;
-use notes::Step;
+use meaning::Step;
 
 // Places in a row that are as before, or that hold one number.
 struct Run {

@@ -7,7 +7,7 @@ use native.Mathlib.Omega.{arith}
 use lib.IntN.{pos}
 use lib.ListN.{length, take, drop, set, length-set}
 use lib.Seq.{drop-at, set-split, take-set-le, length-take-le}
-use Rattle.notes.specs.Render.{decimal}
+use Rattle.meaning.specs.Render.{decimal}
 use Rattle.decimals.specs.Put.{Put}
 use Rattle.decimals.proofs.Digits.{digit, digits, more-digits, at-least-one}
 

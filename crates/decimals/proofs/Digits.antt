@@ -8,8 +8,8 @@ use lib.Dec.{ltb}
 use lib.IntN.{pos, negsuc}
 use lib.ListN.{length, length-append}
 use Rattle.laws.proofs.Tests.{by-test}
-use Rattle.notes.specs.Numerals.{minus}
-use Rattle.notes.specs.Render.{digitsBefore, decimal}
+use Rattle.meaning.specs.Numerals.{minus}
+use Rattle.meaning.specs.Render.{digitsBefore, decimal}
 
 -- one turn of `digitsBefore`
 last : (fuel n : ℕ) (r : List ℕ) → n < 10 → digitsBefore (suc fuel) n r ≡ (48 + n) ∷ r

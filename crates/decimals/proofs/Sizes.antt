@@ -12,8 +12,8 @@ use mir.Facts.{toZ-ofZ}
 use Rattle.laws.specs.Integers.{Within, up, dn}
 use Rattle.laws.proofs.Got.{i64, leaf, lit, sub, kept}
 use Rattle.laws.proofs.Linear.{signed, dif, num}
-use Rattle.notes.specs.Numerals.{minus}
-use Rattle.notes.specs.Render.{decimal}
+use Rattle.meaning.specs.Numerals.{minus}
+use Rattle.meaning.specs.Render.{decimal}
 use Rattle.decimals.proofs.Digits.{negative}
 
 -- its digits are those of its size, after a minus where it is negative

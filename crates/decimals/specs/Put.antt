@@ -4,8 +4,8 @@ use mathlib.Core.Path.{_≡_}
 use mathlib.Core.List.{List, _∷_, _++_}
 use lib.IntN.{ℤ}
 use lib.ListN.{length, take, drop}
-use Rattle.notes.specs.Numerals.{comma}
-use Rattle.notes.specs.Render.{decimal}
+use Rattle.meaning.specs.Numerals.{comma}
+use Rattle.meaning.specs.Render.{decimal}
 
 -- the bytes bs stand in the list from place `at` up to r, and the rest of the list is as it was
 pub record Put (bs : List ℕ) (at r : ℕ) (old new : List ℕ) : Type 0 where

@@ -6,7 +6,7 @@ ghost use Prim.Native.Nat.{_+_, _^_, _≤_};
 ghost use lib.IntN.{pos};
 ghost use lib.ListN.{length};
 ghost use Rattle.laws.specs.Integers.{Within};
-ghost use Rattle.notes.specs.Render.{decimal};
+ghost use Rattle.meaning.specs.Render.{decimal};
 ghost use Rattle.decimals.specs.Put.{Put, field};
 
 // Puts one byte at a place.

@@ -10,20 +10,20 @@ use lib.IntN.{ℤ}
 use lib.ListN.{length, getD}
 use Rattle.search_theory.specs.Search.{run, upto}
 use Rattle.search_theory.specs.Loops.{pick}
-use Rattle.notes.specs.Book.{Book}
-use Rattle.notes.specs.Direction.{wordCount}
-use Rattle.notes.specs.State.{Hyp, wordsCovered, isBetter}
-use Rattle.notes.specs.Search.{search, answer, entered}
-use Rattle.notes.specs.declared.Refusal.the-variants.{StoreTooSmall}
+use Rattle.meaning.specs.Book.{Book}
+use Rattle.meaning.specs.Direction.{wordCount}
+use Rattle.meaning.specs.State.{Hyp, wordsCovered, isBetter}
+use Rattle.meaning.specs.Search.{search, answer, entered}
+use Rattle.meaning.specs.declared.Refusal.the-variants.{StoreTooSmall}
 use Rattle.states.specs.Answer.{noClose, picked}
 use Rattle.states.specs.Ghost.{Starting}
 use Rattle.states.specs.Shows.{nobody, Lists}
 use Rattle.store.specs.declared.Found.{Found}
 use Rattle.states.proofs.Back.{start-chains, start-short}
 use Rattle.states.proofs.Ghost.{best-read, search-ends}
-use Rattle.answer.specs.declared.Core.{Core}
+use Rattle.answer.specs.declared.PlainReply.{PlainReply}
 use Rattle.answer.specs.Told.{Ends, Told}
-use Rattle.decoder.specs.Core.{refusedBy, Concluded, SearchedIf, Searched}
+use Rattle.decoder.specs.Decodes.{refusedBy, Concluded, SearchedIf, Searched}
 
 module _ (book : Book) (direction : List ℕ) (width : ℤ) {st : List ℤ} {count : ℕ} (B : Starting book direction width (wordCount direction) st count) where
   -- the place k holds a state of the search
@@ -43,7 +43,7 @@ module _ (book : Book) (direction : List ℕ) (width : ℤ) {st : List ℤ} {cou
   unfolding entered
   entered-count = sym (search-ends book direction width B .0)
 
-  pub told-all : {q : Hyp} {words₀ words₁ : List ℕ} {r : Core} → Told book q count words₀ words₁ r → Told book q (length (entered book direction width)) words₀ words₁ r
+  pub told-all : {q : Hyp} {words₀ words₁ : List ℕ} {r : PlainReply} → Told book q count words₀ words₁ r → Told book q (length (entered book direction width)) words₀ words₁ r
   told-all {q} {words₀} {words₁} {r} T = subst (λ (m : ℕ). Told book q m words₀ words₁ r) entered-count T
 
   -- what was found is the answer
@@ -55,7 +55,7 @@ module _ (book : Book) (direction : List ℕ) (width : ℤ) {st : List ℤ} {cou
       best-read book direction width B result (subst (λ (m : ℕ). (l : List Hyp) → Lists m st count l → pick wordsCovered m noClose isBetter none l ≡ picked l result) e f)
       ∙ ap (picked (run (search book direction width))) z
 
-  pub concluded-by : {o : Option Hyp} → answer book direction width ≡ o → (words₀ words₁ : List ℕ) (r : Core)
+  pub concluded-by : {o : Option Hyp} → answer book direction width ≡ o → (words₀ words₁ : List ℕ) (r : PlainReply)
       → Concluded o book width (length (entered book direction width)) words₀ words₁ r
       → Concluded (answer book direction width) book width (length (entered book direction width)) words₀ words₁ r
   concluded-by e words₀ words₁ r C = subst (λ (o : Option Hyp). Concluded o book width (length (entered book direction width)) words₀ words₁ r) (sym e) C
@@ -63,11 +63,11 @@ module _ (book : Book) (direction : List ℕ) (width : ℤ) {st : List ℤ} {cou
 -- ════ question 13
 
 module _ (book : Book) (direction : List ℕ) (width : ℤ) (places : ℕ) where
-  pub too-small : places < length (entered book direction width) → (words₀ words₁ : List ℕ) (r : Core) → (r ≡ refusedBy StoreTooSmall) × (words₁ ≡ words₀)
+  pub too-small : places < length (entered book direction width) → (words₀ words₁ : List ℕ) (r : PlainReply) → (r ≡ refusedBy StoreTooSmall) × (words₁ ≡ words₀)
       → Searched book direction width places words₀ words₁ r
   too-small h words₀ words₁ r u = subst (λ (b : Bool). SearchedIf b book direction width words₀ words₁ r) (sym (lt-leb (length (entered book direction width)) places h)) u
 
-  pub large-enough : length (entered book direction width) ≤ places → (words₀ words₁ : List ℕ) (r : Core)
+  pub large-enough : length (entered book direction width) ≤ places → (words₀ words₁ : List ℕ) (r : PlainReply)
       → Concluded (answer book direction width) book width (length (entered book direction width)) words₀ words₁ r → Searched book direction width places words₀ words₁ r
   large-enough h words₀ words₁ r u = subst (λ (b : Bool). SearchedIf b book direction width words₀ words₁ r) (sym (le-leb (length (entered book direction width)) places h)) u
 

@@ -13,29 +13,29 @@ use lib.ListN.{length, replicate, length-replicate}
 use Rattle.laws.specs.Lists.{isEmpty}
 use Rattle.laws.proofs.Tests.{both}
 use Rattle.book.specs.Entries.{EntriesAt}
-use Rattle.notes.specs.Questions.{_unless_, _orelse_, number}
-use Rattle.notes.specs.Book.{Book, bookOf, bookRefusal}
-use Rattle.notes.specs.Direction.{wordCount, directionRefusal}
-use Rattle.notes.specs.Derivation.{isValid, targetWords}
-use Rattle.notes.specs.State.{Hyp, start}
-use Rattle.notes.specs.Search.{isOff, entered, lastSet, answer}
-use Rattle.notes.specs.Reply.{refused, done, reply, writtenOver, Lent, Outcome, outcomeOf, decodedReply, beforeSearch, afterSearch, decodeRefusal, decode, decodedStore, ListsAfter}
-use Rattle.notes.specs.declared.Decoded.{Decoded}
-use Rattle.notes.specs.declared.Refusal.{Refusal}
-use Rattle.notes.specs.declared.Refusal.the-variants.{Width, StepsOrWordsTooShort, StoreTooSmall, NoDerivation, LastSetEmpty}
-use Rattle.notes.specs.declared.Step.{Step}
-use Rattle.notes.proofs.Answers.{answer-derives, answer-none}
-use Rattle.notes.proofs.Demands.{direction-to}
-use Rattle.notes.proofs.Valid.{proposal-valid}
+use Rattle.meaning.specs.Questions.{_unless_, _orelse_, number}
+use Rattle.meaning.specs.Book.{Book, bookOf, bookRefusal}
+use Rattle.meaning.specs.Direction.{wordCount, directionRefusal}
+use Rattle.meaning.specs.Derivation.{isValid, targetWords}
+use Rattle.meaning.specs.State.{Hyp, start}
+use Rattle.meaning.specs.Search.{isOff, entered, lastSet, answer}
+use Rattle.meaning.specs.Reply.{refused, done, reply, writtenOver, Lent, Outcome, outcomeOf, decodedReply, beforeSearch, afterSearch, decodeRefusal, decode, decodedStore, ListsAfter}
+use Rattle.meaning.specs.declared.Decoded.{Decoded}
+use Rattle.meaning.specs.declared.Refusal.{Refusal}
+use Rattle.meaning.specs.declared.Refusal.the-variants.{Width, StepsOrWordsTooShort, StoreTooSmall, NoDerivation, LastSetEmpty}
+use Rattle.meaning.specs.declared.Step.{Step}
+use Rattle.meaning.proofs.Answers.{answer-derives, answer-none}
+use Rattle.meaning.proofs.Demands.{direction-to}
+use Rattle.meaning.proofs.Valid.{proposal-valid}
 use Rattle.options.specs.Options.{OptionsOf}
 use Rattle.derivation.specs.Prepared.{Prepared}
-use Rattle.derivation.specs.declared.Task.{Task}
+use Rattle.derivation.specs.declared.Setup.{Setup}
 use Rattle.proposal.proofs.Long.{passes-short}
 use Rattle.records.specs.Plain.{stepsOf}
-use Rattle.answer.specs.declared.Core.{Core}
+use Rattle.answer.specs.declared.PlainReply.{PlainReply}
 use Rattle.extending.specs.Extend.{Searchable}
 use Rattle.answer.specs.Told.{answerBy, Told}
-use Rattle.decoder.specs.Core.{refusedBy, noAnswer, Concluded, SearchedIf, CoreDecodes}
+use Rattle.decoder.specs.Decodes.{refusedBy, noAnswer, Concluded, SearchedIf, PlainDecodes}
 
 -- a valid derivation has no more steps than words
 valid-short : (book : Book) (direction : List ℕ) (steps : List Step) → isValid book direction steps ≡ true → length steps ≤ wordCount direction
@@ -75,9 +75,9 @@ module _ (loaded : List ℤ) (direction : List ℕ) (width : ℤ) (room : ℕ) (
   -- ════ a refusal
   module _ {words₁ : List ℕ} {store₁ : List ℤ} where
     pub refuses : (refusal : Refusal) → decode loaded direction width (lentOf room) ≡ refused (number refusal) → words₁ ≡ words₀ → store₁ ≡ decodedStore loaded direction width (lentOf room) store₀
-        → {r : Core} → r ≡ refusedBy refusal → CoreDecodes loaded direction width room words₀ words₁ store₀ store₁ r
+        → {r : PlainReply} → r ≡ refusedBy refusal → PlainDecodes loaded direction width room words₀ words₁ store₀ store₁ r
     refuses refusal d w s e =
-        subst (CoreDecodes loaded direction width room words₀ words₁ store₀ store₁) (sym e)
+        subst (PlainDecodes loaded direction width room words₀ words₁ store₀ store₁) (sym e)
         (record {
           has-room = omega arith;
           few = omega arith;
@@ -90,13 +90,13 @@ module _ (loaded : List ℤ) (direction : List ℕ) (width : ℤ) (room : ℕ) (
 
   module _ (b : bookRefusal loaded ≡ 0) (d : directionRefusal direction ≡ 0) where
     -- ════ questions 11 and 12: no list changes
-    pub refuses-11 : leZ (negsuc 0) width ≡ false → {r : Core} → r ≡ refusedBy Width → CoreDecodes loaded direction width room words₀ words₀ store₀ store₀ r
+    pub refuses-11 : leZ (negsuc 0) width ≡ false → {r : PlainReply} → r ≡ refusedBy Width → PlainDecodes loaded direction width room words₀ words₀ store₀ store₀ r
     unfolding decode decodeRefusal beforeSearch decodedStore
     refuses-11 w = refuses Width (rw (b, d, w)) refl (rw (b, d, w))
 
     module _ (w : leZ (negsuc 0) width ≡ true) where
-      pub refuses-12 : leb (wordCount direction) room && leb (8 * wordCount direction) (length words₀) ≡ false → {r : Core} → r ≡ refusedBy StepsOrWordsTooShort
-          → CoreDecodes loaded direction width room words₀ words₀ store₀ store₀ r
+      pub refuses-12 : leb (wordCount direction) room && leb (8 * wordCount direction) (length words₀) ≡ false → {r : PlainReply} → r ≡ refusedBy StepsOrWordsTooShort
+          → PlainDecodes loaded direction width room words₀ words₀ store₀ store₀ r
       unfolding decode decodeRefusal beforeSearch decodedStore
       refuses-12 l = refuses StepsOrWordsTooShort (rw (b, d, w, l)) refl (rw (b, d, w, l))
 
@@ -129,8 +129,8 @@ module _ (loaded : List ℤ) (direction : List ℕ) (width : ℤ) (room : ℕ) (
             let z : isEmpty (lastSet book direction width) ≡ false = not-empty (lastSet book direction width) (λ n. some-none (sym a ∙ answer-none book direction width .1 n)) in
             rw (b, d, w, l, e, z, a) (some-reply (isOff width) _)
 
-        answers : (q : Hyp) → places ≡ true → answer book direction width ≡ some q → {r : Core} → Told book q (length (entered book direction width)) words₀ words₁ r
-            → CoreDecodes loaded direction width room words₀ words₁ store₀ store₁ r
+        answers : (q : Hyp) → places ≡ true → answer book direction width ≡ some q → {r : PlainReply} → Told book q (length (entered book direction width)) words₀ words₁ r
+            → PlainDecodes loaded direction width room words₀ words₁ store₀ store₁ r
         answers q e a {r} T =
             let v = answer-derives book direction width q a in
             let short = valid-short book direction (q .steps) (v .steps-valid) in
@@ -154,18 +154,18 @@ module _ (loaded : List ℤ) (direction : List ℕ) (width : ℤ) (room : ℕ) (
               };
             }
 
-        concludes : (o : Option Hyp) → places ≡ true → answer book direction width ≡ o → (r : Core) → Concluded o book width (length (entered book direction width)) words₀ words₁ r
-            → CoreDecodes loaded direction width room words₀ words₁ store₀ store₁ r
+        concludes : (o : Option Hyp) → places ≡ true → answer book direction width ≡ o → (r : PlainReply) → Concluded o book width (length (entered book direction width)) words₀ words₁ r
+            → PlainDecodes loaded direction width room words₀ words₁ store₀ store₁ r
         concludes none e a r (is, same) = refuses (noAnswer width) (without e a) same cleared is
         concludes (some q) e a r T = answers q e a T
 
-        pub searches : (p : Bool) → places ≡ p → (r : Core) → SearchedIf p book direction width words₀ words₁ r → CoreDecodes loaded direction width room words₀ words₁ store₀ store₁ r
+        pub searches : (p : Bool) → places ≡ p → (r : PlainReply) → SearchedIf p book direction width words₀ words₁ r → PlainDecodes loaded direction width room words₀ words₁ store₀ store₁ r
         searches true e r C = concludes (answer book direction width) e refl r C
         searches false e r (is, same) = refuses StoreTooSmall (full e) same cleared is
 
 -- ════ the lists of the search are ready
 
-pub made-searchable : {loaded : List ℤ} {direction : List ℕ} {index : List ℤ} {options : List ℕ} {t : Task} → Prepared loaded direction index t
+pub made-searchable : {loaded : List ℤ} {direction : List ℕ} {index : List ℤ} {options : List ℕ} {t : Setup} → Prepared loaded direction index t
     → OptionsOf (bookOf loaded) direction options → length options < 2 ^ 63
     → Searchable loaded direction index options t
 made-searchable {direction} R of small =

@@ -1,32 +1,32 @@
 // Decoding on plain numbers: questions 11 to 15, the search between them, and the answer.
 use answer::Best;
-use answer::Core;
-use extending::Job;
-use notes::Decoded;
-use notes::Refusal;
+use answer::PlainReply;
+use extending::Beam;
+use meaning::Decoded;
+use meaning::Refusal;
 use states::Grown;
 use store::Found;
 ghost use mathlib.Core.Path.{_≡_};
 ghost use Prim.Native.Nat.{_+_, _*_, _/_, _≤_, _<_};
 ghost use lib.IntN.{pos};
 ghost use lib.ListN.{length, replicate};
-ghost use Rattle.notes.specs.Book.{bookOf};
-ghost use Rattle.notes.specs.Direction.{wordCount};
-ghost use Rattle.notes.specs.Search.{answer, entered};
+ghost use Rattle.meaning.specs.Book.{bookOf};
+ghost use Rattle.meaning.specs.Direction.{wordCount};
+ghost use Rattle.meaning.specs.Search.{answer, entered};
 ghost use mathlib.Core.Bool.{_&&_};
 ghost use lib.Dec.{leb};
 ghost use Rattle.book.specs.Entries.{EntriesAt};
 ghost use Rattle.derivation.specs.Prepared.{Prepared};
 ghost use Rattle.options.specs.Options.{optionsSize};
 ghost use Rattle.states.specs.Ghost.{Starting};
-ghost use Rattle.decoder.specs.Core.{refusedBy, noAnswer, Concluded, Searched, CoreDecodes};
+ghost use Rattle.decoder.specs.Decodes.{refusedBy, noAnswer, Concluded, Searched, PlainDecodes};
 ghost use Rattle.extending.specs.Extend.{Choices, Searchable};
 
 // A refusal: no steps are written.
-pub fn refused(refusal: Refusal) -> Core
+pub fn refused(refusal: Refusal) -> PlainReply
     ensures { λ r. ⌜ r ≡ refusedBy refusal ⌝ }
 {
-    Core {
+    PlainReply {
         plain: records::empty(),
         reply: Decoded::Refused(refusal),
     }
@@ -51,37 +51,37 @@ fn conclude(
     direction: &[u16],
     index: &[i32],
     options: &[u16],
-    job: Job,
+    beam: Beam,
     words: &mut [u16],
-) -> Core
-    requires { ⌜ Choices (now book) (now direction) (now index) (now options) (job .task) ⌝ }
-    requires { ⌜ Starting (bookOf (now book)) (now direction) (job .width) (wordCount (now direction)) (now store) count ⌝ }
+) -> PlainReply
+    requires { ⌜ Choices (now book) (now direction) (now index) (now options) (beam .setup) ⌝ }
+    requires { ⌜ Starting (bookOf (now book)) (now direction) (beam .width) (wordCount (now direction)) (now store) count ⌝ }
     requires { ⌜ 8 * wordCount (now direction) ≤ length (now words) ⌝ }
-    ensures { λ r. ⌜ Concluded (answer (bookOf (now (book .entry))) (now (direction .entry)) (job .width)) (bookOf (now (book .entry))) (job .width) (length (entered (bookOf (now (book .entry))) (now (direction .entry)) (job .width))) (now (words .entry)) (now (words .exit)) r ⌝ }
+    ensures { λ r. ⌜ Concluded (answer (bookOf (now (book .entry))) (now (direction .entry)) (beam .width)) (bookOf (now (book .entry))) (beam .width) (length (entered (bookOf (now (book .entry))) (now (direction .entry)) (beam .width))) (now (words .entry)) (now (words .exit)) r ⌝ }
     ensures { λ r. ⌜ now (store .exit) ≡ replicate (length (now (store .entry))) (pos 0) ⌝ }
 {
-    match states::reading::pick_best(store, count, job.task.n) {
+    match states::best::pick_best(store, count, beam.setup.n) {
         Found::Nothing => {
             clearing::clear_used(store, count);
-            refused(no_answer(job.width))
+            refused(no_answer(beam.width))
         }
         Found::At(k) => {
             let best = Best {
                 at: k,
                 states: count,
             };
-            let core = answer::trace(
+            let told = answer::trace(
                 store,
                 best,
                 book,
                 direction,
                 index,
                 options,
-                job.task,
+                beam.setup,
                 words,
             );
             clearing::clear_used(store, count);
-            core
+            told
         }
     }
 }
@@ -94,21 +94,21 @@ fn search_for_best(
     direction: &[u16],
     index: &[i32],
     options: &[u16],
-    job: Job,
+    beam: Beam,
     words: &mut [u16],
-) -> Core
-    requires { ⌜ Searchable (now book) (now direction) (now index) (now options) (job .task) ⌝ }
+) -> PlainReply
+    requires { ⌜ Searchable (now book) (now direction) (now index) (now options) (beam .setup) ⌝ }
     requires { ⌜ 8 * wordCount (now direction) ≤ length (now words) ⌝ }
-    ensures { λ r. ⌜ Searched (bookOf (now (book .entry))) (now (direction .entry)) (job .width) (length (now (store .entry)) / 8) (now (words .entry)) (now (words .exit)) r ⌝ }
+    ensures { λ r. ⌜ Searched (bookOf (now (book .entry))) (now (direction .entry)) (beam .width) (length (now (store .entry)) / 8) (now (words .entry)) (now (words .exit)) r ⌝ }
     ensures { λ r. ⌜ now (store .exit) ≡ replicate (length (now (store .entry))) (pos 0) ⌝ }
 {
     clearing::clear(store);
-    match sets::search(store, book, direction, index, options, job) {
+    match sets::search(store, book, direction, index, options, beam) {
         Grown::Overflow => {
             clearing::clear(store);
             refused(Refusal::StoreTooSmall)
         }
-        Grown::On(count) => conclude(store, count, book, direction, index, options, job, words),
+        Grown::On(count) => conclude(store, count, book, direction, index, options, beam, words),
     }
 }
 
@@ -126,17 +126,17 @@ pub fn decode_with(
     direction: &[u16],
     index: &[i32],
     options: &mut [u16],
-    job: Job,
+    beam: Beam,
     room: usize,
     words: &mut [u16],
     store: &mut [i64],
-) -> Core
-    requires { ⌜ Prepared (now book) (now direction) (now index) (job .task) ⌝ }
+) -> PlainReply
+    requires { ⌜ Prepared (now book) (now direction) (now index) (beam .setup) ⌝ }
     requires { ⌜ optionsSize ≤ length (now options) ⌝ }
-    ensures { λ r. ⌜ CoreDecodes (now (book .entry)) (now (direction .entry)) (job .width) room (now (words .entry)) (now (words .exit)) (now (store .entry)) (now (store .exit)) r ⌝ }
+    ensures { λ r. ⌜ PlainDecodes (now (book .entry)) (now (direction .entry)) (beam .width) room (now (words .entry)) (now (words .exit)) (now (store .entry)) (now (store .exit)) r ⌝ }
 {
-    let t = job.task;
-    let width = job.width;
+    let t = beam.setup;
+    let width = beam.width;
     if width < -1 {
         return refused(Refusal::Width);
     }
@@ -144,5 +144,5 @@ pub fn decode_with(
         return refused(Refusal::StepsOrWordsTooShort);
     }
     options::list_options(book, index, t, direction, options);
-    search_for_best(store, book, direction, index, options, job, words)
+    search_for_best(store, book, direction, index, options, beam, words)
 }

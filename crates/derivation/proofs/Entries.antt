@@ -11,8 +11,8 @@ use lib.Seq.{getD-take, getD-drop, length-take-le}
 use Rattle.laws.specs.Integers.{Within, natOf}
 use Rattle.laws.proofs.Tests.{both}
 use Rattle.laws.proofs.Linear.{signed}
-use Rattle.notes.specs.Bounds.{wordMost, scoreMost}
-use Rattle.notes.specs.Book.{Entry, numberAt, naturalAt, isPhraseWord, wordsAt}
+use Rattle.meaning.specs.Bounds.{wordMost, scoreMost}
+use Rattle.meaning.specs.Book.{Entry, numberAt, naturalAt, isPhraseWord, wordsAt}
 use Rattle.book.specs.Entries.{EntryAt}
 use Rattle.derivation.specs.Model.{WordsAt, PhraseOf}
 

@@ -1,3 +1,3 @@
-pub mod Says
+pub mod Rows
 pub mod Next
 pub mod Entries

@@ -4,37 +4,37 @@ use mathlib.Core.Path.{_≡_, refl, sym, _∙_, ap}
 use mathlib.Core.Bool.{true}
 use mathlib.Core.List.{List, [], _∷_}
 use lib.IntN.{ℤ, pos, _+ℤ_, _*ℤ_, +ℤ-idl, +ℤ-idr, +ℤ-assoc}
-use Rattle.coverage.proofs.Laws.{mask-covers}
-use Rattle.notes.specs.Book.{Book}
-use Rattle.notes.specs.Derivation.{tripleScore, wordsScore, entryAt, jump}
-use Rattle.notes.specs.State.{isFree, lastTwo, nextKey, gain, keyOf}
-use Rattle.notes.specs.declared.Step.{Step}
-use Rattle.notes.specs.declared.State.{State}
-use Rattle.derivation.specs.Model.{modelScore, silent, sayOne, sayAll}
+use Rattle.positions.proofs.Laws.{mask-covers}
+use Rattle.meaning.specs.Book.{Book}
+use Rattle.meaning.specs.Derivation.{tripleScore, wordsScore, entryAt, jump}
+use Rattle.meaning.specs.State.{isFree, lastTwo, nextKey, gain, keyOf}
+use Rattle.meaning.specs.declared.Step.{Step}
+use Rattle.meaning.specs.declared.State.{State}
+use Rattle.derivation.specs.Model.{modelScore, emptyRow, withWord, withWords}
 use Rattle.derivation.specs.Next.{jumpFrom, gainBy, nextState}
-use Rattle.derivation.specs.declared.Task.{Task}
-use Rattle.derivation.specs.declared.Said.{Said}
+use Rattle.derivation.specs.declared.Setup.{Setup}
+use Rattle.derivation.specs.declared.Row.{Row}
 use Rattle.derivation.specs.declared.Phrase.{Phrase}
 
-module _ (book : Book) (index : List ℤ) (t : Task) (scores : (v w y : ℕ) → modelScore index t v w y ≡ tripleScore book v w y) where
+module _ (book : Book) (index : List ℤ) (t : Setup) (scores : (v w y : ℕ) → modelScore index t v w y ≡ tripleScore book v w y) where
   -- what a row says is the score of its triples, and its last two words
-  said-score : (s : Said) (ys : List ℕ) → sayAll index t s ys .score ≡ s .score +ℤ wordsScore book (s .word1) (s .word2) ys
-  unfolding sayAll sayOne wordsScore
-  said-score s [] = sym (+ℤ-idr (s .score))
-  said-score s (y ∷ ys) =
-      said-score (sayOne index t s y) ys
+  row-score : (s : Row) (ys : List ℕ) → withWords index t s ys .score ≡ s .score +ℤ wordsScore book (s .word1) (s .word2) ys
+  unfolding withWords withWord wordsScore
+  row-score s [] = sym (+ℤ-idr (s .score))
+  row-score s (y ∷ ys) =
+      row-score (withWord index t s y) ys
       ∙ ap (λ z. s .score +ℤ z +ℤ wordsScore book (s .word2) y ys) (scores (s .word1) (s .word2) y)
       ∙ +ℤ-assoc (s .score) (tripleScore book (s .word1) (s .word2) y) (wordsScore book (s .word2) y ys)
 
-  said-word1 : (s : Said) (ys : List ℕ) → sayAll index t s ys .word1 ≡ lastTwo (s .word1) (s .word2) ys .0
-  unfolding sayAll sayOne lastTwo
-  said-word1 s [] = refl
-  said-word1 s (y ∷ ys) = said-word1 (sayOne index t s y) ys
+  row-word1 : (s : Row) (ys : List ℕ) → withWords index t s ys .word1 ≡ lastTwo (s .word1) (s .word2) ys .0
+  unfolding withWords withWord lastTwo
+  row-word1 s [] = refl
+  row-word1 s (y ∷ ys) = row-word1 (withWord index t s y) ys
 
-  said-word2 : (s : Said) (ys : List ℕ) → sayAll index t s ys .word2 ≡ lastTwo (s .word1) (s .word2) ys .1
-  unfolding sayAll sayOne lastTwo
-  said-word2 s [] = refl
-  said-word2 s (y ∷ ys) = said-word2 (sayOne index t s y) ys
+  row-word2 : (s : Row) (ys : List ℕ) → withWords index t s ys .word2 ≡ lastTwo (s .word1) (s .word2) ys .1
+  unfolding withWords withWord lastTwo
+  row-word2 s [] = refl
+  row-word2 s (y ∷ ys) = row-word2 (withWord index t s y) ys
 
   module _ (step : Step) (p : Phrase) (n : ℕ) (s : State) where
     -- the key
@@ -43,8 +43,8 @@ module _ (book : Book) (index : List ℤ) (t : Task) (scores : (v w y : ℕ) →
     unfolding keyOf nextState nextKey
     next-key a b c small free =
         let e = entryAt book (step .entry) in
-        let w1 = said-word1 (silent (s .word1) (s .word2)) (e .target) in
-        let w2 = said-word2 (silent (s .word1) (s .word2)) (e .target) in
+        let w1 = row-word1 (emptyRow (s .word1) (s .word2)) (e .target) in
+        let w2 = row-word2 (emptyRow (s .word1) (s .word2)) (e .target) in
         let cov = mask-covers step n (s .covered) a b c small free in
         λ i. record { word1 = w1 i; word2 = w2 i; covered = cov i; r = step .last }
 
@@ -54,10 +54,10 @@ module _ (book : Book) (index : List ℤ) (t : Task) (scores : (v w y : ℕ) →
     unfolding keyOf nextState gain gainBy jump
     next-score g eta =
         let e = entryAt book (step .entry) in
-        let w : sayAll index t (silent (s .word1) (s .word2)) (e .target) .score ≡ wordsScore book (s .word1) (s .word2) (e .target) =
-        said-score (silent (s .word1) (s .word2)) (e .target) ∙ +ℤ-idl (wordsScore book (s .word1) (s .word2) (e .target)) in
+        let w : withWords index t (emptyRow (s .word1) (s .word2)) (e .target) .score ≡ wordsScore book (s .word1) (s .word2) (e .target) =
+        row-score (emptyRow (s .word1) (s .word2)) (e .target) ∙ +ℤ-idl (wordsScore book (s .word1) (s .word2) (e .target)) in
         let far = pos (jumpFrom (s .r) (step .first)) in
-        let said = sayAll index t (silent (s .word1) (s .word2)) (e .target) .score in
-        ap (λ z. s .score +ℤ (z +ℤ t .eta *ℤ far +ℤ said)) g
-        ∙ ap (λ z. s .score +ℤ (e .g +ℤ z *ℤ far +ℤ said)) eta
+        let row = withWords index t (emptyRow (s .word1) (s .word2)) (e .target) .score in
+        ap (λ z. s .score +ℤ (z +ℤ t .eta *ℤ far +ℤ row)) g
+        ∙ ap (λ z. s .score +ℤ (e .g +ℤ z *ℤ far +ℤ row)) eta
         ∙ ap (λ z. s .score +ℤ (e .g +ℤ book .eta *ℤ far +ℤ z)) w

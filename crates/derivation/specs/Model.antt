@@ -7,37 +7,37 @@ use lib.IntN.{ℤ, pos, _+ℤ_}
 use lib.ListN.{length, getD}
 use Rattle.laws.specs.Integers.{Within, natOf}
 use Rattle.laws.specs.Lists.{noneTwice}
-use Rattle.notes.specs.Bounds.{wordMost, wordSpan, scoreMost}
-use Rattle.notes.specs.Book.{Entry}
-use Rattle.notes.specs.Derivation.{listedScore}
+use Rattle.meaning.specs.Bounds.{wordMost, wordSpan, scoreMost}
+use Rattle.meaning.specs.Book.{Entry}
+use Rattle.meaning.specs.Derivation.{listedScore}
 use Rattle.ngrams.specs.Grams.{keysIn, triplesIn, sameKey, Indexed}
-use Rattle.derivation.specs.declared.Task.{Task}
-use Rattle.derivation.specs.declared.Said.{Said}
+use Rattle.derivation.specs.declared.Setup.{Setup}
+use Rattle.derivation.specs.declared.Row.{Row}
 use Rattle.derivation.specs.declared.Phrase.{Phrase}
 
 -- ════ the language model
 
 -- the score of the triple v, w, y by the list
-unfoldable pub modelScore : List ℤ → Task → ℕ → ℕ → ℕ → ℤ
+unfoldable pub modelScore : List ℤ → Setup → ℕ → ℕ → ℕ → ℤ
 modelScore index t v w y = listedScore v w y (t .unseen) (triplesIn index (t .triples))
 
 -- the list has an index of triples, no two alike, with scores in their range
-pub record Model (index : List ℤ) (t : Task) : Type 0 where
+pub record Model (index : List ℤ) (t : Setup) : Type 0 where
   pub indexed : Indexed index (t .triples)
   pub different : noneTwice sameKey (keysIn index (t .triples)) ≡ true
   pub scores-within : (v w y : ℕ) → Within scoreMost (modelScore index t v w y)
 
--- nothing said yet, after two words
-abbrev pub silent : ℕ → ℕ → Said
-silent v w = record { score = pos 0; word1 = v; word2 = w }
+-- nothing row yet, after two words
+abbrev pub emptyRow : ℕ → ℕ → Row
+emptyRow v w = record { score = pos 0; word1 = v; word2 = w }
 
 -- one target word more, and a row of them
-unfoldable pub sayOne : List ℤ → Task → Said → ℕ → Said
-sayOne index t s y = record { score = s .score +ℤ modelScore index t (s .word1) (s .word2) y; word1 = s .word2; word2 = y }
+unfoldable pub withWord : List ℤ → Setup → Row → ℕ → Row
+withWord index t s y = record { score = s .score +ℤ modelScore index t (s .word1) (s .word2) y; word1 = s .word2; word2 = y }
 
-unfoldable pub sayAll : List ℤ → Task → Said → List ℕ → Said
-sayAll index t s [] = s
-sayAll index t s (y ∷ ys) = sayAll index t (sayOne index t s y) ys
+unfoldable pub withWords : List ℤ → Setup → Row → List ℕ → Row
+withWords index t s [] = s
+withWords index t s (y ∷ ys) = withWords index t (withWord index t s y) ys
 
 -- ════ an entry
 

@@ -3,37 +3,37 @@ use Prim.Native.Nat.{ℕ, suc, _+_, _-_, _^_, _≤_, _<_}
 use mathlib.Core.List.{List}
 use lib.IntN.{ℤ, pos, _+ℤ_, _*ℤ_}
 use Rattle.laws.specs.Integers.{Within}
-use Rattle.coverage.specs.Runs.{maskOf}
-use Rattle.notes.specs.Bounds.{penaltyMost}
-use Rattle.notes.specs.Book.{Entry}
-use Rattle.notes.specs.State.{scoreBound}
-use Rattle.notes.specs.declared.State.{State}
-use Rattle.derivation.specs.Model.{silent, sayAll}
-use Rattle.derivation.specs.declared.Task.{Task}
-use Rattle.derivation.specs.declared.Said.{Said}
+use Rattle.positions.specs.Runs.{maskOf}
+use Rattle.meaning.specs.Bounds.{penaltyMost}
+use Rattle.meaning.specs.Book.{Entry}
+use Rattle.meaning.specs.State.{scoreBound}
+use Rattle.meaning.specs.declared.State.{State}
+use Rattle.derivation.specs.Model.{emptyRow, withWords}
+use Rattle.derivation.specs.declared.Setup.{Setup}
+use Rattle.derivation.specs.declared.Row.{Row}
 use Rattle.derivation.specs.declared.Phrase.{Phrase}
 
 -- |r + 1 − first|
 abbrev pub jumpFrom : ℕ → ℕ → ℕ
 jumpFrom r first = (suc r - first) + (first - suc r)
 
-unfoldable pub gainBy : Task → Phrase → ℕ → Said → ℤ
-gainBy t p far said = p .g +ℤ t .eta *ℤ pos far +ℤ said .score
+unfoldable pub gainBy : Setup → Phrase → ℕ → Row → ℤ
+gainBy t p far row = p .g +ℤ t .eta *ℤ pos far +ℤ row .score
 
--- the entry's words are said, the positions covered, and the gain added
-unfoldable pub nextState : List ℤ → Task → Phrase → Entry → ℕ → ℕ → State → State
+-- the entry's words are row, the positions covered, and the gain added
+unfoldable pub nextState : List ℤ → Setup → Phrase → Entry → ℕ → ℕ → State → State
 nextState index t p e first last s =
-    let said = sayAll index t (silent (s .word1) (s .word2)) (e .target) in
+    let row = withWords index t (emptyRow (s .word1) (s .word2)) (e .target) in
     record {
-      word1 = said .word1;
-      word2 = said .word2;
+      word1 = row .word1;
+      word2 = row .word2;
       covered = s .covered + maskOf first last;
       r = last;
-      score = s .score +ℤ gainBy t p (jumpFrom (s .r) first) said;
+      score = s .score +ℤ gainBy t p (jumpFrom (s .r) first) row;
     }
 
 -- the positions lie in the direction, there is room for them in the number, the jump is in reach and the numbers are small
-pub record CanNext (t : Task) (first last : ℕ) (s : State) : Type 0 where
+pub record CanNext (t : Setup) (first last : ℕ) (s : State) : Type 0 where
   pub first-from : 1 ≤ first
   pub first-to : first ≤ last
   pub last-to : last ≤ 32

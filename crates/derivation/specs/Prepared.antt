@@ -4,14 +4,14 @@ use mathlib.Core.Path.{_≡_}
 use mathlib.Core.List.{List}
 use lib.IntN.{ℤ}
 use lib.ListN.{length}
-use Rattle.notes.specs.Book.{bookRefusal, bookOf}
-use Rattle.notes.specs.Direction.{wordCount, directionRefusal}
-use Rattle.notes.specs.Derivation.{tripleScore}
+use Rattle.meaning.specs.Book.{bookRefusal, bookOf}
+use Rattle.meaning.specs.Direction.{wordCount, directionRefusal}
+use Rattle.meaning.specs.Derivation.{tripleScore}
 use Rattle.book.specs.Entries.{EntriesAt}
 use Rattle.derivation.specs.Model.{Model, modelScore}
-use Rattle.derivation.specs.declared.Task.{Task}
+use Rattle.derivation.specs.declared.Setup.{Setup}
 
-pub record Prepared (loaded : List ℤ) (direction : List ℕ) (index : List ℤ) (t : Task) : Type 0 where
+pub record Prepared (loaded : List ℤ) (direction : List ℕ) (index : List ℤ) (t : Setup) : Type 0 where
   pub passed : bookRefusal loaded ≡ 0
   pub directed : directionRefusal direction ≡ 0
   pub model : Model index t

@@ -5,7 +5,7 @@ pub mod step;
 
 // The numbers of a book and a direction that every step needs: how many words the direction has, the reordering limit, the
 // penalty, the score of an unseen triple, how many entries and how many triples there are.
-pub struct Task {
+pub struct Setup {
     pub n: usize,
     pub limit: usize,
     pub eta: i64,
@@ -15,7 +15,7 @@ pub struct Task {
 }
 
 // What a row of target words says: the scores of the triples that they end, and the last two words.
-pub struct Said {
+pub struct Row {
     pub score: i64,
     pub word1: u16,
     pub word2: u16,

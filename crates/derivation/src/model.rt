@@ -1,21 +1,21 @@
 // The language model's part of a step: the triples that a row of target words ends.
 use crate::Phrase;
-use crate::Said;
-use crate::Task;
+use crate::Row;
+use crate::Setup;
 use ngrams::Key;
 ghost use mathlib.Core.Path.{_≡_};
 ghost use Prim.Native.Nat.{_+_, _<_};
 ghost use lib.ListN.{length};
 ghost use Rattle.laws.specs.Integers.{Within};
-ghost use Rattle.notes.specs.Bounds.{saidBound};
-ghost use Rattle.notes.specs.Book.{Entry};
-ghost use Rattle.derivation.specs.Model.{Model, wordIn, silent, sayOne, sayAll, PhraseOf, Phrased};
+ghost use Rattle.meaning.specs.Bounds.{wordsBound};
+ghost use Rattle.meaning.specs.Book.{Entry};
+ghost use Rattle.derivation.specs.Model.{Model, wordIn, emptyRow, withWord, withWords, PhraseOf, Phrased};
 
 // One target word more.
-fn say_word(index: &[i32], t: Task, s: Said, y: u16) -> Said
+fn add_word(index: &[i32], t: Setup, s: Row, y: u16) -> Row
     requires { ⌜ Model (now index) t ⌝ }
-    requires { ⌜ Within saidBound (s .score) ⌝ }
-    ensures { λ r. ⌜ r ≡ sayOne (now (index .entry)) t s y ⌝ }
+    requires { ⌜ Within wordsBound (s .score) ⌝ }
+    ensures { λ r. ⌜ r ≡ withWord (now (index .entry)) t s y ⌝ }
 {
     let old = s.score;
     let key = Key {
@@ -24,7 +24,7 @@ fn say_word(index: &[i32], t: Task, s: Said, y: u16) -> Said
         y: y as usize,
     };
     let gain = ngrams::triple_score(index, t.triples, t.unseen, key);
-    Said {
+    Row {
         score: old + gain,
         word1: s.word2,
         word2: y,
@@ -44,13 +44,13 @@ pub fn word_at(book: &[i32], k: usize) -> u16
 }
 
 // What the entry's target words say after the words word1 and word2.
-pub fn say(book: &[i32], index: &[i32], t: Task, p: Phrase, word1: u16, word2: u16) -> Said
+pub fn row_of(book: &[i32], index: &[i32], t: Setup, p: Phrase, word1: u16, word2: u16) -> Row
     requires { ⌜ Model (now index) t ⌝ }
     requires { ⌜ Phrased (now book) p ⌝ }
-    ensures { λ r. ⌜ ((e : Entry) → PhraseOf (now (book .entry)) e p → r ≡ sayAll (now (index .entry)) t (silent word1 word2) (e .target)) ⌝ }
-    ensures { λ r. ⌜ Within saidBound (r .score) ⌝ }
+    ensures { λ r. ⌜ ((e : Entry) → PhraseOf (now (book .entry)) e p → r ≡ withWords (now (index .entry)) t (emptyRow word1 word2) (e .target)) ⌝ }
+    ensures { λ r. ⌜ Within wordsBound (r .score) ⌝ }
 {
-    let mut s = Said {
+    let mut s = Row {
         score: 0,
         word1,
         word2,
@@ -58,7 +58,7 @@ pub fn say(book: &[i32], index: &[i32], t: Task, p: Phrase, word1: u16, word2: u
     let mut j = 0;
     while j < p.count {
         let y = word_at(book, p.target + j);
-        s = say_word(index, t, s, y);
+        s = add_word(index, t, s, y);
         j += 1;
     }
     s

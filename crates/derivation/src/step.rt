@@ -1,15 +1,15 @@
 // A step on plain numbers: its jump, what it adds to a score, and the state that it leads to.
 use crate::Phrase;
-use crate::Said;
-use crate::Task;
+use crate::Row;
+use crate::Setup;
 use crate::model;
-use notes::State;
+use meaning::State;
 ghost use mathlib.Core.Path.{_≡_};
 ghost use Prim.Native.Nat.{_+_, _*_, _^_, _≤_, _<_};
 ghost use Rattle.laws.specs.Integers.{Within};
-ghost use Rattle.notes.specs.State.{gainBound};
-ghost use Rattle.notes.specs.Bounds.{scoreMost, penaltyMost, saidBound};
-ghost use Rattle.notes.specs.Book.{Entry};
+ghost use Rattle.meaning.specs.State.{gainBound};
+ghost use Rattle.meaning.specs.Bounds.{scoreMost, penaltyMost, wordsBound};
+ghost use Rattle.meaning.specs.Book.{Entry};
 ghost use Rattle.derivation.specs.Model.{Model, PhraseOf, Phrased};
 ghost use Rattle.derivation.specs.Next.{jumpFrom, gainBy, nextState, CanNext};
 
@@ -27,13 +27,13 @@ pub fn jump(r: usize, first: usize) -> usize
 }
 
 // What a step adds to a score: the entry's, the penalty of its jump, and what its target words say.
-fn gain(t: Task, p: Phrase, far: usize, said: Said) -> i64
-    requires { ⌜ (Within penaltyMost (t .eta)) × ((Within scoreMost (p .g)) × ((far ≤ 32) × (Within saidBound (said .score)))) ⌝ }
-    ensures { λ r. ⌜ (r ≡ gainBy t p far said) × Within gainBound r ⌝ }
+fn gain(t: Setup, p: Phrase, far: usize, row: Row) -> i64
+    requires { ⌜ (Within penaltyMost (t .eta)) × ((Within scoreMost (p .g)) × ((far ≤ 32) × (Within wordsBound (row .score)))) ⌝ }
+    ensures { λ r. ⌜ (r ≡ gainBy t p far row) × Within gainBound r ⌝ }
 {
     let g = p.g;
     let eta = t.eta;
-    let words = said.score;
+    let words = row.score;
     g + eta * far as i64 + words
 }
 
@@ -41,7 +41,7 @@ fn gain(t: Task, p: Phrase, far: usize, said: Said) -> i64
 pub fn next_state(
     book: &[i32],
     index: &[i32],
-    t: Task,
+    t: Setup,
     p: Phrase,
     first: usize,
     last: usize,
@@ -52,13 +52,13 @@ pub fn next_state(
     requires { ⌜ CanNext t first last s ⌝ }
     ensures { λ r. ⌜ ((e : Entry) → PhraseOf (now (book .entry)) e p → r ≡ nextState (now (index .entry)) t p e first last s) ⌝ }
 {
-    let said = model::say(book, index, t, p, s.word1, s.word2);
-    let more = gain(t, p, jump(s.r as usize, first), said);
+    let row = model::row_of(book, index, t, p, s.word1, s.word2);
+    let more = gain(t, p, jump(s.r as usize, first), row);
     let old = s.score;
     State {
-        word1: said.word1,
-        word2: said.word2,
-        covered: coverage::covered_with(s.covered, first, last),
+        word1: row.word1,
+        word2: row.word2,
+        covered: positions::covered_with(s.covered, first, last),
         r: last as u16,
         score: old + more,
     }

@@ -9,10 +9,10 @@ use lib.IntN.{ℤ}
 use lib.ListN.{length, length-map}
 use Rattle.laws.specs.Integers.{natOf}
 use Rattle.laws.specs.Lists.{all}
-use Rattle.notes.specs.Questions.{within}
-use Rattle.notes.specs.Direction.{isDirectionWord}
-use Rattle.notes.specs.Direction.{isDirectionText, directionNumbers, numbersRefusal, readDirectionRefusal, directionOf}
-use Rattle.notes.specs.Reply.{Reply, refused, done, writtenOver, readDirection, readDirectionList}
+use Rattle.meaning.specs.Questions.{within}
+use Rattle.meaning.specs.Direction.{isDirectionWord}
+use Rattle.meaning.specs.Direction.{isDirectionText, directionNumbers, numbersRefusal, readDirectionRefusal, directionOf}
+use Rattle.meaning.specs.Reply.{Reply, refused, done, writtenOver, readDirection, readDirectionList}
 
 -- ════ questions 9 and 10
 

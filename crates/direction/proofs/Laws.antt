@@ -15,7 +15,7 @@ use Rattle.laws.specs.Lists.{all}
 use Rattle.laws.proofs.Tests.{both}
 use Rattle.laws.proofs.Linear.{signed, num}
 use Rattle.laws.proofs.Lists.{drop-next, all-drop}
-use Rattle.notes.specs.Direction.{isDirectionWord}
+use Rattle.meaning.specs.Direction.{isDirectionWord}
 
 module _ (z : ℤ) (w : isDirectionWord z ≡ true) where
   pub word-fits : T (nonNeg z) × Fits w16 (natAbs z)

@@ -1,7 +1,7 @@
 // Directions: reading a direction's text (questions 8, 9, 10, 7) and checking a direction as numbers (9, 10).
-use notes::Checked;
-use notes::Read;
-use notes::Refusal;
+use meaning::Checked;
+use meaning::Read;
+use meaning::Refusal;
 ghost use mathlib.Core.Path.{_≡_};
 ghost use mathlib.Core.Bool.{true};
 ghost use mathlib.Core.List.{map};
@@ -10,9 +10,9 @@ ghost use lib.IntN.{pos};
 ghost use lib.ListN.{length};
 ghost use Rattle.laws.specs.Integers.{natOf};
 ghost use Rattle.laws.specs.Lists.{all};
-ghost use Rattle.notes.specs.Questions.{within};
-ghost use Rattle.notes.specs.Direction.{isDirectionWord, directionRefusal};
-ghost use Rattle.notes.specs.Reply.{readReply, checkedReply, reply, writtenOver, readDirection, readDirectionList};
+ghost use Rattle.meaning.specs.Questions.{within};
+ghost use Rattle.meaning.specs.Direction.{isDirectionWord, directionRefusal};
+ghost use Rattle.meaning.specs.Reply.{readReply, checkedReply, reply, writtenOver, readDirection, readDirectionList};
 
 // Question 9, of how many words there are.
 fn is_count(n: usize) -> bool

@@ -11,22 +11,22 @@ use Rattle.laws.specs.Bits.{bitsOf}
 use Rattle.laws.specs.Integers.{Within}
 use Rattle.laws.specs.Lists.{count}
 use Rattle.laws.proofs.Bits.{bits-length}
-use Rattle.coverage.specs.Runs.{maskOf}
-use Rattle.coverage.proofs.Laws.{mask-fits, cover-ones}
-use Rattle.notes.specs.Bounds.{penaltyMost}
-use Rattle.notes.specs.Book.{Book, bookOf}
-use Rattle.notes.specs.Direction.{wordCount}
-use Rattle.notes.specs.Derivation.{entryAt, fits}
-use Rattle.notes.specs.State.{wordsCovered, isFree, cover, nextKey, gain, keyOf, scoreBound}
-use Rattle.notes.specs.declared.State.{State}
-use Rattle.notes.specs.Search.{stepAt}
-use Rattle.notes.specs.declared.Step.{Step}
-use Rattle.notes.proofs.Steps.{Fits, fits-facts, fits-size}
-use Rattle.notes.proofs.Ranges.{loaded-ranged}
+use Rattle.positions.specs.Runs.{maskOf}
+use Rattle.positions.proofs.Laws.{mask-fits, cover-ones}
+use Rattle.meaning.specs.Bounds.{penaltyMost}
+use Rattle.meaning.specs.Book.{Book, bookOf}
+use Rattle.meaning.specs.Direction.{wordCount}
+use Rattle.meaning.specs.Derivation.{entryAt, fits}
+use Rattle.meaning.specs.State.{wordsCovered, isFree, cover, nextKey, gain, keyOf, scoreBound}
+use Rattle.meaning.specs.declared.State.{State}
+use Rattle.meaning.specs.Search.{stepAt}
+use Rattle.meaning.specs.declared.Step.{Step}
+use Rattle.meaning.proofs.Steps.{Fits, fits-facts, fits-size}
+use Rattle.meaning.proofs.Ranges.{loaded-ranged}
 use Rattle.derivation.specs.Model.{PhraseOf}
 use Rattle.derivation.specs.Next.{jumpFrom, nextState, CanNext}
 use Rattle.derivation.specs.Prepared.{Prepared}
-use Rattle.derivation.specs.declared.Task.{Task}
+use Rattle.derivation.specs.declared.Setup.{Setup}
 use Rattle.derivation.specs.declared.Phrase.{Phrase}
 use Rattle.derivation.proofs.Next.{next-key, next-score}
 use Rattle.states.specs.Shows.{Fine}
@@ -35,7 +35,7 @@ use Rattle.store.specs.declared.Place.{Place}
 use Rattle.extending.specs.Extend.{nextPlace, CanPlace}
 use Rattle.extending.specs.declared.Turn.{Turn}
 
-module _ {loaded : List ℤ} {direction : List ℕ} {index : List ℤ} {t : Task} (R : Prepared loaded direction index t)
+module _ {loaded : List ℤ} {direction : List ℕ} {index : List ℤ} {t : Setup} (R : Prepared loaded direction index t)
     (turn : Turn) {p : Phrase} (of : PhraseOf loaded (entryAt (bookOf loaded) (turn .entry)) p) (fine : Fine (wordCount direction) (turn .spot .source .place .state)) where
   abbrev x : Place
   x = turn .spot .source .place

@@ -13,20 +13,20 @@ use Rattle.laws.specs.Bits.{bitsOf}
 use Rattle.laws.proofs.Bits.{bits-length}
 use Rattle.laws.proofs.Bounds.{within-mono}
 use Rattle.laws.proofs.Lists.{getD-mem, climbs}
-use Rattle.coverage.specs.Runs.{freeRun, RunsFrom}
-use Rattle.coverage.proofs.Laws.{free-run}
-use Rattle.notes.specs.Book.{Book, bookOf}
-use Rattle.notes.specs.Direction.{wordCount}
-use Rattle.notes.specs.Derivation.{noStep, entryAt, fits, jump}
-use Rattle.notes.specs.State.{isFree, mayExtend, keyOf}
-use Rattle.notes.specs.Search.{stepAt, fittingSteps}
-use Rattle.notes.specs.declared.Step.{Step}
-use Rattle.notes.proofs.Steps.{Fits, fits-facts, fits-size, listed-fits}
-use Rattle.notes.proofs.Ranges.{loaded-ranged}
+use Rattle.positions.specs.Runs.{freeRun, RunsFrom}
+use Rattle.positions.proofs.Laws.{free-run}
+use Rattle.meaning.specs.Book.{Book, bookOf}
+use Rattle.meaning.specs.Direction.{wordCount}
+use Rattle.meaning.specs.Derivation.{noStep, entryAt, fits, jump}
+use Rattle.meaning.specs.State.{isFree, mayExtend, keyOf}
+use Rattle.meaning.specs.Search.{stepAt, fittingSteps}
+use Rattle.meaning.specs.declared.Step.{Step}
+use Rattle.meaning.proofs.Steps.{Fits, fits-facts, fits-size, listed-fits}
+use Rattle.meaning.proofs.Ranges.{loaded-ranged}
 use Rattle.derivation.specs.Model.{PhraseOf}
 use Rattle.derivation.specs.Next.{jumpFrom}
 use Rattle.derivation.specs.declared.Phrase.{Phrase}
-use Rattle.derivation.specs.declared.Task.{Task}
+use Rattle.derivation.specs.declared.Setup.{Setup}
 use Rattle.store.specs.Store.{Storable}
 use Rattle.states.specs.Ghost.{optionAt, Chosen, Growing, Grew, After, NextPlace}
 use Rattle.store.specs.declared.Place.{Place}
@@ -35,15 +35,15 @@ use Rattle.states.specs.declared.Added.the-variants.{Replaced, Kept, Appended, 
 use Rattle.states.specs.declared.Grown.{Grown}
 use Rattle.states.proofs.Ghost.{skipped, went, chosen-score, next-storable}
 use Rattle.extending.specs.Extend.{nextPlace, CanPlace, grownBy, Grows, Searchable, SpotOf, TurnOf}
-use Rattle.extending.specs.declared.Job.{Job}
+use Rattle.extending.specs.declared.Beam.{Beam}
 use Rattle.extending.specs.declared.Source.{Source}
 use Rattle.extending.specs.declared.Spot.{Spot}
 use Rattle.extending.specs.declared.Turn.{Turn}
 use Rattle.options.specs.Options.{optionsFrom, startAt, optionIn}
 use Rattle.extending.proofs.Placed.{can-place, next-place}
 
-module _ {loaded : List ℤ} {direction : List ℕ} {index : List ℤ} {job : Job} {turn : Turn}
-    (T : TurnOf loaded direction index job turn) {p : Phrase} (of : PhraseOf loaded (entryAt (bookOf loaded) (turn .entry)) p) where
+module _ {loaded : List ℤ} {direction : List ℕ} {index : List ℤ} {beam : Beam} {turn : Turn}
+    (T : TurnOf loaded direction index beam turn) {p : Phrase} (of : PhraseOf loaded (entryAt (bookOf loaded) (turn .entry)) p) where
   abbrev book : Book
   book = bookOf loaded
 
@@ -97,8 +97,8 @@ module _ {loaded : List ℤ} {direction : List ℕ} {index : List ℤ} {job : Jo
   may-is b e = ap (mayExtend book direction (keyOf n (x .state))) (T .option-is) ∙ rw (fit, free-is, e, near-is) (and-true b)
 
   -- the run is too short: nothing is added
-  pub turn-skips : {st : List ℤ} {count : ℕ} → Growing book direction (job .width) (x .size) j o st count → run < p .long → Growing book direction (job .width) (x .size) j (o + 1) st count
-  turn-skips G h = skipped book direction (job .width) (T .spot-of .chosen) (T .option-in) G (may-is false (lt-leb (p .long) run h))
+  pub turn-skips : {st : List ℤ} {count : ℕ} → Growing book direction (beam .width) (x .size) j o st count → run < p .long → Growing book direction (beam .width) (x .size) j (o + 1) st count
+  turn-skips G h = skipped book direction (beam .width) (T .spot-of .chosen) (T .option-in) G (may-is false (lt-leb (p .long) run h))
 
   module _ (h : p .long ≤ run) where
     free : isFree step 1 (keyOf n (x .state) .covered) ≡ true
@@ -107,31 +107,31 @@ module _ {loaded : List ℤ} {direction : List ℕ} {index : List ℤ} {job : Jo
     size-to : x .size ≤ n
     size-to = let l = T .spot-of .chosen .low in let e = T .spot-of .chosen .sized in omega arith
 
-    pub turn-can : CanPlace (job .task) p (turn .spot)
+    pub turn-can : CanPlace (beam .setup) p (turn .spot)
     turn-can =
         let N = T .spot-of .chosen .shown .fine .few in
         let s = size-to in
         can-place (T .prepared) turn of (T .spot-of .chosen .shown .fine) fit free (T .near)
-        (within-mono (omega arith) (chosen-score book direction (job .width) (loaded-ranged loaded (T .prepared .passed)) (T .spot-of .chosen))) s
+        (within-mono (omega arith) (chosen-score book direction (beam .width) (loaded-ranged loaded (T .prepared .passed)) (T .spot-of .chosen))) s
 
-    pub turn-next : NextPlace book direction x j o (nextPlace index (job .task) p (entryAt book k) turn)
+    pub turn-next : NextPlace book direction x j o (nextPlace index (beam .setup) p (entryAt book k) turn)
     turn-next = next-place (T .prepared) turn of (T .spot-of .chosen .shown .fine) fit free (T .option-is) (T .spot-of .chosen .shown .size-is)
 
     -- each answer of add_place goes one option further
-    pub turn-grows : (y : Place) → y ≡ nextPlace index (job .task) p (entryAt book k) turn → {st st′ : List ℤ} {count : ℕ} → Growing book direction (job .width) (x .size) j o st count
-        → (r : Grown) → Grows st st′ count y r → Grew book direction (job .width) (x .size) j (o + 1) st′ r
+    pub turn-grows : (y : Place) → y ≡ nextPlace index (beam .setup) p (entryAt book k) turn → {st st′ : List ℤ} {count : ℕ} → Growing book direction (beam .width) (x .size) j o st count
+        → (r : Grown) → Grows st st′ count y r → Grew book direction (beam .width) (x .size) j (o + 1) st′ r
     turn-grows y e {st} {st′} {count} G r g =
         rw (g .is) (by (g .answer)
-        (went book direction (job .width) (T .spot-of .chosen) (T .option-in) G (may-is true (le-leb (p .long) run h)) (subst (NextPlace book direction x j o) (sym e) turn-next) st′ (g .answer) (g .added) (g .index)))
+        (went book direction (beam .width) (T .spot-of .chosen) (T .option-in) G (may-is true (le-leb (p .long) run h)) (subst (NextPlace book direction x j o) (sym e) turn-next) st′ (g .answer) (g .added) (g .index)))
       where
-        by : (a : Added) → After book direction (job .width) (x .size) j (o + 1) st′ count a → Grew book direction (job .width) (x .size) j (o + 1) st′ (grownBy count a)
+        by : (a : Added) → After book direction (beam .width) (x .size) j (o + 1) st′ count a → Grew book direction (beam .width) (x .size) j (o + 1) st′ (grownBy count a)
         by Replaced u = u
         by Kept u = u
         by Appended u = u
         by Full u = u
 
-    pub turn-storable : (y : Place) → y ≡ nextPlace index (job .task) p (entryAt book k) turn → Storable y
-    turn-storable y e = subst Storable (sym e) (next-storable book direction (job .width) turn-next (T .spot-of .place-small) (T .option-small))
+    pub turn-storable : (y : Place) → y ≡ nextPlace index (beam .setup) p (entryAt book k) turn → Storable y
+    turn-storable y e = subst Storable (sym e) (next-storable book direction (beam .width) turn-next (T .spot-of .place-small) (T .option-small))
 
 -- several options that may not extend the state
 module _ (bk : Book) (direction : List ℕ) (width : ℤ) (i j : ℕ) (x : Place) (A : Chosen bk direction width i j x) (from : ℕ) (st : List ℤ) (count : ℕ) where
@@ -148,8 +148,8 @@ module _ (bk : Book) (direction : List ℕ) (width : ℤ) (i j : ℕ) (x : Place
       (skipped bk direction width A (omega arith) F (never (from + many) (omega arith) (omega arith)))
 
 -- the options of a position, from where they begin to where the next position's begin
-module _ {loaded : List ℤ} {direction : List ℕ} {index : List ℤ} {options : List ℕ} {job : Job} {spot : Spot}
-    (R : Searchable loaded direction index options (job .task)) (S : SpotOf loaded direction job spot) where
+module _ {loaded : List ℤ} {direction : List ℕ} {index : List ℤ} {options : List ℕ} {beam : Beam} {spot : Spot}
+    (R : Searchable loaded direction index options (beam .setup)) (S : SpotOf loaded direction beam spot) where
   abbrev book′ : Book
   book′ = bookOf loaded
 
@@ -201,8 +201,8 @@ module _ {loaded : List ℤ} {direction : List ℕ} {index : List ℤ} {options 
       let e = to-end in
       listed-fits book′ direction _ (subst (λ (s : Step). List·Memᴰ s (fittingSteps book′ direction)) (each o a b) (getD-mem (fittingSteps book′ direction) o noStep (omega arith)))
 
-  pub spot-turn : jumpFrom (x′ .state .r) first′ ≤ job .task .limit → (o : ℕ) → from ≤ o → o < to
-      → TurnOf loaded direction index job (record { spot = spot; option = o; entry = optionIn options o })
+  pub spot-turn : jumpFrom (x′ .state .r) first′ ≤ beam .setup .limit → (o : ℕ) → from ≤ o → o < to
+      → TurnOf loaded direction index beam (record { spot = spot; option = o; entry = optionIn options o })
   spot-turn near o a b =
       let e = to-end in
       let l = R .choices .options-of .ends in
@@ -221,19 +221,19 @@ module _ {loaded : List ℤ} {direction : List ℕ} {index : List ℤ} {options 
 
   -- none of them may extend the state
   spot-skips : ((o : ℕ) → from ≤ o → o < to → mayExtend book′ direction (keyOf n′ (x′ .state)) (stepAt book′ first′ (optionIn options o)) ≡ false)
-      → {st : List ℤ} {count : ℕ} → Growing book′ direction (job .width) (x′ .size) j′ from st count → Growing book′ direction (job .width) (x′ .size) j′ to st count
+      → {st : List ℤ} {count : ℕ} → Growing book′ direction (beam .width) (x′ .size) j′ from st count → Growing book′ direction (beam .width) (x′ .size) j′ to st count
   spot-skips never {st} {count} G =
       let e = to-end in
       let l = R .choices .options-of .ends in
       let r : from ≤ to = spot-rises in
       let z : from + (to - from) ≡ to = omega arith in
-      subst (λ (o : ℕ). Growing book′ direction (job .width) (x′ .size) j′ o st count) z
-      (skip-all book′ direction (job .width) (x′ .size) j′ x′ (S .chosen) from st count (to - from) (omega arith)
+      subst (λ (o : ℕ). Growing book′ direction (beam .width) (x′ .size) j′ o st count) z
+      (skip-all book′ direction (beam .width) (x′ .size) j′ x′ (S .chosen) from st count (to - from) (omega arith)
       (λ o a b. ap (mayExtend book′ direction (keyOf n′ (x′ .state))) (each o a (omega arith)) ∙ never o a (omega arith)) G)
 
   -- the position is out of reach
-  pub far-skips : job .task .limit < jumpFrom (x′ .state .r) first′
-      → {st : List ℤ} {count : ℕ} → Growing book′ direction (job .width) (x′ .size) j′ from st count → Growing book′ direction (job .width) (x′ .size) j′ to st count
+  pub far-skips : beam .setup .limit < jumpFrom (x′ .state .r) first′
+      → {st : List ℤ} {count : ℕ} → Growing book′ direction (beam .width) (x′ .size) j′ from st count → Growing book′ direction (beam .width) (x′ .size) j′ to st count
   unfolding mayExtend keyOf jump
   far-skips far =
       spot-skips (λ o a b.
@@ -242,7 +242,7 @@ module _ {loaded : List ℤ} {direction : List ℕ} {index : List ℤ} {options 
 
   -- the position is covered
   pub covered-skips : spot .run ≡ 0
-      → {st : List ℤ} {count : ℕ} → Growing book′ direction (job .width) (x′ .size) j′ from st count → Growing book′ direction (job .width) (x′ .size) j′ to st count
+      → {st : List ℤ} {count : ℕ} → Growing book′ direction (beam .width) (x′ .size) j′ from st count → Growing book′ direction (beam .width) (x′ .size) j′ to st count
   unfolding mayExtend keyOf wordCount
   covered-skips none = spot-skips (λ o a b. by o (step-fits o a b))
     where
@@ -259,11 +259,11 @@ module _ {loaded : List ℤ} {direction : List ℕ} {index : List ℤ} {options 
           rw (q, and-false) refl
 
 -- a position, with the run that was read for it
-module _ {loaded : List ℤ} {direction : List ℕ} {index : List ℤ} {options : List ℕ} {job : Job} {source : Source}
-    (R : Searchable loaded direction index options (job .task)) where
-  pub spot-at : Chosen (bookOf loaded) direction (job .width) (source .place .size) (source .at) (source .place) → source .at < 2 ^ 63
-      → (runs : List ℕ) → RunsFrom runs (job .task .n) (source .place .state .covered) 0 → (i : ℕ) → i < job .task .n
-      → SpotOf loaded direction job (record { source = source; first = i + 1; run = getD runs i 0 })
+module _ {loaded : List ℤ} {direction : List ℕ} {index : List ℤ} {options : List ℕ} {beam : Beam} {source : Source}
+    (R : Searchable loaded direction index options (beam .setup)) where
+  pub spot-at : Chosen (bookOf loaded) direction (beam .width) (source .place .size) (source .at) (source .place) → source .at < 2 ^ 63
+      → (runs : List ℕ) → RunsFrom runs (beam .setup .n) (source .place .state .covered) 0 → (i : ℕ) → i < beam .setup .n
+      → SpotOf loaded direction beam (record { source = source; first = i + 1; run = getD runs i 0 })
   spot-at A small runs F i h =
       let e = R .prepared .n-is in
       let z : i + 1 - 1 ≡ i = omega arith in
@@ -276,7 +276,7 @@ module _ {loaded : List ℤ} {direction : List ℕ} {index : List ℤ} {options 
       }
 
 -- no option is done before the first position (`begins`), and all of them after the last
-pub all-done : {loaded : List ℤ} {direction : List ℕ} {index : List ℤ} {options : List ℕ} {t : Task}
+pub all-done : {loaded : List ℤ} {direction : List ℕ} {index : List ℤ} {options : List ℕ} {t : Setup}
     → Searchable loaded direction index options t → (i : ℕ) → i ≤ t .n → t .n ≤ i → length (fittingSteps (bookOf loaded) direction) ≤ startAt options i
 all-done {direction} R i a b =
     let n = R .prepared .n-is in

@@ -1,12 +1,12 @@
 // A state of the store is extended by every step that may follow it.
 use derivation::Phrase;
-use derivation::Task;
+use derivation::Setup;
 use states::Added;
 use states::Grown;
 use store::Place;
 ghost use mathlib.Core.Path.{_≡_};
 ghost use Prim.Native.Nat.{_+_, _-_, _^_, _≤_, _<_};
-ghost use Rattle.notes.specs.Book.{Entry, bookOf};
+ghost use Rattle.meaning.specs.Book.{Entry, bookOf};
 ghost use Rattle.derivation.specs.Model.{Model, PhraseOf, Phrased};
 ghost use Rattle.derivation.specs.Next.{jumpFrom};
 ghost use Rattle.options.specs.Options.{startAt};
@@ -15,8 +15,8 @@ ghost use Rattle.states.specs.Ghost.{Chosen, Growing, Grew, Levelled};
 ghost use Rattle.extending.specs.Extend.{Grows, nextPlace, CanPlace, Searchable, SpotOf, TurnOf};
 
 // What is searched: the numbers of the book and the direction, and the beam's width (-1: pruning off).
-pub struct Job {
-    pub task: derivation::Task,
+pub struct Beam {
+    pub setup: derivation::Setup,
     pub width: i64,
 }
 
@@ -41,7 +41,7 @@ pub struct Turn {
 }
 
 // The place that the entry p leads to in this turn.
-fn next_place(book: &[i32], index: &[i32], t: Task, p: Phrase, turn: Turn) -> Place
+fn next_place(book: &[i32], index: &[i32], t: Setup, p: Phrase, turn: Turn) -> Place
     requires { ⌜ Model (now index) t ⌝ }
     requires { ⌜ Phrased (now book) p ⌝ }
     requires { ⌜ CanPlace t p (turn .spot) ⌝ }
@@ -81,14 +81,14 @@ fn extend_option(
     book: &[i32],
     direction: &[u16],
     index: &[i32],
-    job: Job,
+    beam: Beam,
     turn: Turn,
 ) -> Grown
-    requires { ⌜ TurnOf (now book) (now direction) (now index) job turn ⌝ }
-    requires { ⌜ Growing (bookOf (now book)) (now direction) (job .width) (turn .spot .source .place .size) (turn .spot .source .at) (turn .option) (now store) count ⌝ }
-    ensures { λ r. ⌜ Grew (bookOf (now (book .entry))) (now (direction .entry)) (job .width) (turn .spot .source .place .size) (turn .spot .source .at) (turn .option + 1) (now (store .exit)) r ⌝ }
+    requires { ⌜ TurnOf (now book) (now direction) (now index) beam turn ⌝ }
+    requires { ⌜ Growing (bookOf (now book)) (now direction) (beam .width) (turn .spot .source .place .size) (turn .spot .source .at) (turn .option) (now store) count ⌝ }
+    ensures { λ r. ⌜ Grew (bookOf (now (book .entry))) (now (direction .entry)) (beam .width) (turn .spot .source .place .size) (turn .spot .source .at) (turn .option + 1) (now (store .exit)) r ⌝ }
 {
-    let t = job.task;
+    let t = beam.setup;
     let p = derivation::places::phrase_at(book, index, t.phrases, turn.entry);
     if turn.spot.run < p.long {
         return Grown::On(count);
@@ -105,18 +105,18 @@ fn extend_at(
     direction: &[u16],
     index: &[i32],
     options: &[u16],
-    job: Job,
+    beam: Beam,
     spot: Spot,
 ) -> Grown
-    requires { ⌜ Searchable (now book) (now direction) (now index) (now options) (job .task) ⌝ }
-    requires { ⌜ SpotOf (now book) (now direction) job spot ⌝ }
-    requires { ⌜ Growing (bookOf (now book)) (now direction) (job .width) (spot .source .place .size) (spot .source .at) (startAt (now options) (spot .first - 1)) (now store) count ⌝ }
-    ensures { λ r. ⌜ Grew (bookOf (now (book .entry))) (now (direction .entry)) (job .width) (spot .source .place .size) (spot .source .at) (startAt (now (options .entry)) (spot .first)) (now (store .exit)) r ⌝ }
+    requires { ⌜ Searchable (now book) (now direction) (now index) (now options) (beam .setup) ⌝ }
+    requires { ⌜ SpotOf (now book) (now direction) beam spot ⌝ }
+    requires { ⌜ Growing (bookOf (now book)) (now direction) (beam .width) (spot .source .place .size) (spot .source .at) (startAt (now options) (spot .first - 1)) (now store) count ⌝ }
+    ensures { λ r. ⌜ Grew (bookOf (now (book .entry))) (now (direction .entry)) (beam .width) (spot .source .place .size) (spot .source .at) (startAt (now (options .entry)) (spot .first)) (now (store .exit)) r ⌝ }
 {
     if spot.run == 0 {
         return Grown::On(count);
     }
-    if job.task.limit < derivation::step::jump(spot.source.place.state.r as usize, spot.first) {
+    if beam.setup.limit < derivation::step::jump(spot.source.place.state.r as usize, spot.first) {
         return Grown::On(count);
     }
     let to = options::start_at(options, spot.first);
@@ -129,7 +129,7 @@ fn extend_at(
             option: o,
             entry,
         };
-        let Grown::On(more) = extend_option(store, c, book, direction, index, job, turn) else {
+        let Grown::On(more) = extend_option(store, c, book, direction, index, beam, turn) else {
             return Grown::Overflow;
         };
         c = more;
@@ -146,25 +146,26 @@ pub fn extend_all(
     direction: &[u16],
     index: &[i32],
     options: &[u16],
-    job: Job,
+    beam: Beam,
     source: Source,
 ) -> Grown
-    requires { ⌜ Searchable (now book) (now direction) (now index) (now options) (job .task) ⌝ }
-    requires { ⌜ Chosen (bookOf (now book)) (now direction) (job .width) (source .place .size) (source .at) (source .place) × (source .at < 2 ^ 63) ⌝ }
-    requires { ⌜ Growing (bookOf (now book)) (now direction) (job .width) (source .place .size) (source .at) (0) (now store) count ⌝ }
-    ensures { λ r. ⌜ Levelled (bookOf (now (book .entry))) (now (direction .entry)) (job .width) (source .place .size) (source .at + 1) (now (store .exit)) r ⌝ }
+    requires { ⌜ Searchable (now book) (now direction) (now index) (now options) (beam .setup) ⌝ }
+    requires { ⌜ Chosen (bookOf (now book)) (now direction) (beam .width) (source .place .size) (source .at) (source .place) × (source .at < 2 ^ 63) ⌝ }
+    requires { ⌜ Growing (bookOf (now book)) (now direction) (beam .width) (source .place .size) (source .at) (0) (now store) count ⌝ }
+    ensures { λ r. ⌜ Levelled (bookOf (now (book .entry))) (now (direction .entry)) (beam .width) (source .place .size) (source .at + 1) (now (store .exit)) r ⌝ }
 {
-    let runs = coverage::free_runs(source.place.state.covered, job.task.n);
+    let runs = positions::free_runs(source.place.state.covered, beam.setup.n);
     let run = runs.run;
     let mut c = count;
     let mut i = 0;
-    while i < job.task.n {
+    while i < beam.setup.n {
         let spot = Spot {
             source,
             first: i + 1,
             run: run[i] as usize,
         };
-        let Grown::On(more) = extend_at(store, c, book, direction, index, options, job, spot) else {
+        let Grown::On(more) = extend_at(store, c, book, direction, index, options, beam, spot)
+        else {
             return Grown::Overflow;
         };
         c = more;

@@ -11,17 +11,17 @@ use mir.Val.{toZ, ofZ, SFits}
 use Rattle.laws.proofs.Bounds.{within-pos}
 use Rattle.laws.proofs.Got.{Got, nat, lit, sub, fits, kept}
 use Rattle.laws.proofs.Integers.{back-pos}
-use Rattle.notes.specs.Book.{InText, isBookText, textLines, linesRefusal, loadedOf, readRefusal}
-use Rattle.notes.specs.Direction.{isDirectionText, directionNumbers, numbersRefusal, readDirectionRefusal, directionOf}
-use Rattle.notes.specs.Reply.{reply, readReply, readBook, readDirection}
+use Rattle.meaning.specs.Book.{InText, isBookText, textLines, linesRefusal, loadedOf, readRefusal}
+use Rattle.meaning.specs.Direction.{isDirectionText, directionNumbers, numbersRefusal, readDirectionRefusal, directionOf}
+use Rattle.meaning.specs.Reply.{reply, readReply, readBook, readDirection}
 use Rattle.laws.specs.Integers.{natOf}
-use Rattle.notes.specs.declared.Read.{Read}
-use Rattle.notes.specs.declared.Read.the-variants.{Numbers, Refused}
-use Rattle.notes.proofs.Chains.{test-passes, rest-passes, done-passes, done-is}
-use Rattle.notes.proofs.Numbered.{number-to}
+use Rattle.meaning.specs.declared.Read.{Read}
+use Rattle.meaning.specs.declared.Read.the-variants.{Numbers, Refused}
+use Rattle.meaning.proofs.Chains.{test-passes, rest-passes, done-passes, done-is}
+use Rattle.meaning.proofs.Numbered.{number-to}
 use Rattle.ffi.specs.Bounds.{Counted}
-use Rattle.notes.specs.Questions.{_unless_, number}
-use Rattle.notes.specs.declared.Refusal.{Refusal}
+use Rattle.meaning.specs.Questions.{_unless_, number}
+use Rattle.meaning.specs.declared.Refusal.{Refusal}
 
 -- a code that was handed on
 pub code-back : (z : ℤ) (refusal : Refusal) → z ≡ pos (number refusal) → toZ w32 (ofZ w32 z) ≡ pos (number refusal)

@@ -5,16 +5,16 @@ use mathlib.Core.Path.{_≡_, sym, ap, subst}
 use mathlib.Core.List.{List}
 use lib.IntN.{ℤ}
 use lib.ListN.{length, drop, length-append, length-drop}
-use Rattle.notes.specs.Reply.{Lent, Outcome, outcomeOf, decode, writtenOver, filledWith, decodedReply, Decodes}
-use Rattle.notes.specs.declared.Answer.{Answer}
-use Rattle.notes.specs.declared.Decoded.{Decoded}
-use Rattle.notes.specs.declared.Decoded.the-variants.{Done}
-use Rattle.notes.specs.declared.Step.{Step}
-use Rattle.notes.proofs.Demands.{answered}
+use Rattle.meaning.specs.Reply.{Lent, Outcome, outcomeOf, decode, writtenOver, filledWith, decodedReply, Decodes}
+use Rattle.meaning.specs.declared.Answer.{Answer}
+use Rattle.meaning.specs.declared.Decoded.{Decoded}
+use Rattle.meaning.specs.declared.Decoded.the-variants.{Done}
+use Rattle.meaning.specs.declared.Step.{Step}
+use Rattle.meaning.proofs.Demands.{answered}
 use Rattle.records.specs.Plain.{stepsOf}
 use Rattle.records.proofs.Laws.{count-steps}
-use Rattle.decoder.specs.Core.{CoreDecodes}
-use Rattle.answer.specs.declared.Core.{Core}
+use Rattle.decoder.specs.Decodes.{PlainDecodes}
+use Rattle.answer.specs.declared.PlainReply.{PlainReply}
 use Rattle.lists.specs.Report.{Countable}
 use Rattle.lists.specs.Steps.{recordsIn, StepsPut}
 use Rattle.ffi.specs.Calls.{zeroOrRefusal, decodeReport, DecodesNumbers}
@@ -23,8 +23,8 @@ use Rattle.lists.proofs.Threes.{how-many}
 over-le : {A : Type 0} (xs old : List A) → length xs ≤ length (writtenOver xs old)
 over-le xs old = let a = length-append xs (drop (length xs) old) in omega arith
 
-module _ (loaded : List ℤ) (direction : List ℕ) (width : ℤ) (steps₀ steps₁ words₀ words₁ : List ℕ) (store₀ store₁ : List ℤ) (core : Core) where
-  module _ (c : CoreDecodes loaded direction width (length steps₀ / 3) words₀ words₁ store₀ store₁ core) where
+module _ (loaded : List ℤ) (direction : List ℕ) (width : ℤ) (steps₀ steps₁ words₀ words₁ : List ℕ) (store₀ store₁ : List ℤ) (core : PlainReply) where
+  module _ (c : PlainDecodes loaded direction width (length steps₀ / 3) words₀ words₁ store₀ store₁ core) where
     -- the decode, into the records
     into : Decodes loaded direction width (recordsIn steps₀) (writtenOver (stepsOf (core .plain)) (recordsIn steps₀)) words₀ words₁ store₀ store₁ (core .reply)
     into = c .decodes (recordsIn steps₀) (how-many steps₀)

@@ -4,9 +4,9 @@ use mathlib.Core.Path.{_≡_}
 use mathlib.Core.List.{List, [], _∷_}
 use lib.IntN.{ℤ, pos, negℤ}
 use lib.ListN.{length, drop}
-use Rattle.notes.specs.Reply.{Reply, refused, done, filledWith, countsOf, decodedReply, Decodes}
-use Rattle.notes.specs.declared.Decoded.{Decoded}
-use Rattle.notes.specs.declared.Decoded.the-variants.{Done, Refused}
+use Rattle.meaning.specs.Reply.{Reply, refused, done, filledWith, countsOf, decodedReply, Decodes}
+use Rattle.meaning.specs.declared.Decoded.{Decoded}
+use Rattle.meaning.specs.declared.Decoded.the-variants.{Done, Refused}
 use Rattle.lists.specs.Steps.{recordsIn}
 
 -- "numbers written, or minus the refusal"

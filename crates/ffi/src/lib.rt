@@ -1,15 +1,15 @@
 // The calls for C and Rust (include/phrase.h). A lent list comes as a pointer and a length; whatever is handed in is answered.
-use notes::Checked;
-use notes::Decoded;
-use notes::Read;
-use notes::Refusal;
-use notes::Scored;
+use meaning::Checked;
+use meaning::Decoded;
+use meaning::Read;
+use meaning::Refusal;
+use meaning::Scored;
 ghost use mathlib.Core.Path.{_≡_};
 ghost use lib.IntN.{pos};
 ghost use lib.ListN.{length};
-ghost use Rattle.notes.specs.Questions.{number};
-ghost use Rattle.notes.specs.Book.{bookRefusal, targetPart};
-ghost use Rattle.notes.specs.Reply.{readReply, readBook, readBookList, readDirection, readDirectionList, filledWith, scoreProposal};
+ghost use Rattle.meaning.specs.Questions.{number};
+ghost use Rattle.meaning.specs.Book.{bookRefusal, targetPart};
+ghost use Rattle.meaning.specs.Reply.{readReply, readBook, readBookList, readDirection, readDirectionList, filledWith, scoreProposal};
 ghost use Rattle.ffi.specs.Bounds.{Counted};
 ghost use Rattle.lists.specs.Steps.{recordsIn};
 ghost use Rattle.ffi.specs.Calls.{countOrRefusal, zeroOrRefusal, scoreReport, DecodesNumbers};
@@ -18,7 +18,7 @@ ghost use Rattle.ffi.specs.Calls.{countOrRefusal, zeroOrRefusal, scoreRe
 fn code_of(refusal: Refusal) -> i32
     ensures { λ r. ⌜ r ≡ pos (number refusal) ⌝ }
 {
-    notes::number_of(refusal) as i32
+    meaning::number_of(refusal) as i32
 }
 
 // How many numbers were read, or minus the refusal.
@@ -28,7 +28,7 @@ fn count_or_refusal(reply: Read) -> i64
 {
     match reply {
         Read::Numbers(n) => n as i64,
-        Read::Refused(refusal) => 0 - notes::number_of(refusal) as i64,
+        Read::Refused(refusal) => 0 - meaning::number_of(refusal) as i64,
     }
 }
 
@@ -116,10 +116,10 @@ pub extern "C" fn phrase_decode(
     ensures { λ r. ⌜ DecodesNumbers (now (book .entry)) (now (direction .entry)) width (now (steps .entry)) (now (steps .exit)) (now (words .entry)) (now (words .exit)) (now (store .entry)) (now (store .exit)) (now (report .entry)) (now (report .exit)) r ⌝ }
 {
     let room = steps.len() / 3;
-    let core = plain::decode_plain(book, direction, width, room, words, store);
-    let plain = core.plain;
+    let told = plain::decode_plain(book, direction, width, room, words, store);
+    let plain = told.plain;
     lists::steps::put_all(steps, plain);
-    let reply = core.reply;
+    let reply = told.reply;
     match reply {
         Decoded::Done(a) => {
             lists::report::put_answer(report, a);

@@ -8,9 +8,9 @@ use lib.Dec.{eqb}
 use borrow.Author.Tests.{eqb-true}
 use Rattle.laws.specs.Lists.{all, isEmpty}
 use Rattle.laws.proofs.Tests.{clash}
-use Rattle.notes.specs.Numerals.{before, split, lastPart, isEnded, linesOf, isNumber}
-use Rattle.notes.specs.Book.{isTextLine, isBookText}
-use Rattle.notes.specs.Direction.{isOneLineOfNumbers, isDirectionText}
+use Rattle.meaning.specs.Numerals.{before, split, lastPart, isEnded, linesOf, isNumber}
+use Rattle.meaning.specs.Book.{isTextLine, isBookText}
+use Rattle.meaning.specs.Direction.{isOneLineOfNumbers, isDirectionText}
 
 -- what stands before the first comma or byte 10, the further fields of that line, and the further lines
 pub record Cut : Type 0 where

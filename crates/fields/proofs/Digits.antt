@@ -11,7 +11,7 @@ use lib.Dec.{leb, eqb}
 use lib.ListN.{length}
 use Rattle.laws.specs.Lists.{all, isEmpty}
 use Rattle.laws.proofs.Tests.{between}
-use Rattle.notes.specs.Numerals.{isDigit, isPositive, isNatural}
+use Rattle.meaning.specs.Numerals.{isDigit, isPositive, isNatural}
 use Rattle.fields.specs.Scan.{moreDigits}
 
 -- what may follow digits that make v

@@ -12,8 +12,8 @@ use lib.ListN.{length, drop, getD, drop-of-length-le}
 use Rattle.laws.proofs.Tests.{both, by-test, clash, between}
 use Rattle.laws.proofs.Linear.{signed as linear}
 use Rattle.laws.proofs.Lists.{drop-next}
-use Rattle.notes.specs.Numerals.{isDigit}
-use Rattle.notes.specs.Book.{kindOfByte}
+use Rattle.meaning.specs.Numerals.{isDigit}
+use Rattle.meaning.specs.Book.{kindOfByte}
 use Rattle.fields.specs.Scan.{Scan, Line, Kind, Field, Minus, Digits, Broken, moreDigits, next, run, atLine, signed, afterLetter, letterKind, emit}
 use Rattle.fields.specs.Fields.{start, Onward, FieldRead}
 use Rattle.fields.specs.declared.Piece.{Piece}

@@ -11,9 +11,9 @@ use lib.IntN.{pos}
 use lib.ListN.{length}
 use Rattle.laws.specs.Lists.{all, isEmpty}
 use Rattle.laws.proofs.Tests.{clash}
-use Rattle.notes.specs.Numerals.{isDigit, isPositive, isNumber}
-use Rattle.notes.specs.Book.{kindOfByte, kindOfLetter, isTextLine, isBookText}
-use Rattle.notes.specs.Direction.{isDirectionText}
+use Rattle.meaning.specs.Numerals.{isDigit, isPositive, isNumber}
+use Rattle.meaning.specs.Book.{kindOfByte, kindOfLetter, isTextLine, isBookText}
+use Rattle.meaning.specs.Direction.{isDirectionText}
 use Rattle.fields.specs.Scan.{Scan, Line, Kind, Field, Minus, Digits, Broken, afterLetter, moreDigits, next, lineStart, run, atLine}
 use Rattle.fields.proofs.Cut.{Cut, line, cut, Sort, sort, isBlank, areNumbers, isRest, book-is, book-empty, direction-is}
 use Rattle.fields.proofs.Digits.{tail, positive, natural}

@@ -5,7 +5,7 @@ use mathlib.Core.Bool.{Bool, true, false, cond, _&&_}
 use mathlib.Core.List.{List, [], _∷_}
 use lib.ListN.{length, drop, getD}
 use lib.Dec.{eqb}
-use Rattle.notes.specs.Numerals.{isDigit, newline}
+use Rattle.meaning.specs.Numerals.{isDigit, newline}
 use Rattle.fields.specs.Scan.{Scan, Line, Field, Digits, moreDigits, run, atLine, emit, emitLine}
 use Rattle.fields.specs.declared.Numeral.{Numeral}
 use Rattle.fields.specs.declared.Piece.{Piece}

@@ -5,9 +5,9 @@ use mathlib.Core.Bool.{Bool, true, false, cond, _||_}
 use mathlib.Core.List.{List, [], _∷_}
 use lib.Dec.{eqb}
 use lib.IntN.{ℤ, pos, negℤ}
-use Rattle.notes.specs.Questions.{within}
-use Rattle.notes.specs.Numerals.{newline, comma, minus, zeroDigit, isDigit}
-use Rattle.notes.specs.Book.{kindOfByte}
+use Rattle.meaning.specs.Questions.{within}
+use Rattle.meaning.specs.Numerals.{newline, comma, minus, zeroDigit, isDigit}
+use Rattle.meaning.specs.Book.{kindOfByte}
 
 -- what has been read of the line so far
 pub data Scan : Type 0 where

@@ -3,7 +3,7 @@ ghost use mathlib.Core.Path.{_≡_};
 ghost use mathlib.Core.Bool.{Bool, true, false, _&&_};
 ghost use Prim.Native.Nat.{_-_, _≤_, _<_};
 ghost use lib.ListN.{length};
-ghost use Rattle.notes.specs.Numerals.{isDigit};
+ghost use Rattle.meaning.specs.Numerals.{isDigit};
 ghost use Rattle.fields.specs.Scan.{Line, Field, Minus, Digits, moreDigits, signed, letterKind};
 ghost use Rattle.fields.specs.Fields.{start, noMore, DigitsRead, FieldRead};
 

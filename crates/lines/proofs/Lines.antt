@@ -12,8 +12,8 @@ use Rattle.laws.specs.Integers.{eqℤ, natOf}
 use Rattle.laws.specs.Lists.{all}
 use Rattle.laws.proofs.Tests.{both}
 use Rattle.laws.proofs.Linear.{signed}
-use Rattle.notes.specs.Questions.{withinℤ}
-use Rattle.notes.specs.Book.{Form, InText, numberAt, naturalAt, isB, isP, isT, isPhraseLength, phraseSize, sizeOf, isWhole, isScore, isPhraseWord, isHistoryWord, isLastWord, rangesB, rangesP, rangesT, isInRange}
+use Rattle.meaning.specs.Questions.{withinℤ}
+use Rattle.meaning.specs.Book.{Form, InText, numberAt, naturalAt, isB, isP, isT, isPhraseLength, phraseSize, sizeOf, isWhole, isScore, isPhraseWord, isHistoryWord, isLastWord, rangesB, rangesP, rangesT, isInRange}
 
 -- ---- the kind
 

@@ -6,9 +6,9 @@ ghost use Prim.Native.Nat.{_-_};
 ghost use lib.IntN.{pos, negℤ};
 ghost use lib.ListN.{length, drop};
 ghost use Rattle.laws.specs.Lists.{all};
-ghost use Rattle.notes.specs.Questions.{withinℤ};
+ghost use Rattle.meaning.specs.Questions.{withinℤ};
 ghost use Rattle.laws.specs.Integers.{natOf};
-ghost use Rattle.notes.specs.Book.{Form, InText, numberAt, naturalAt, isKind, isPhraseLength, phraseSize, sizeOf, isWhole, isScore, isWord, isPhraseWord, isHistoryWord, isLastWord, rangesB, rangesP, rangesT, isInRange};
+ghost use Rattle.meaning.specs.Book.{Form, InText, numberAt, naturalAt, isKind, isPhraseLength, phraseSize, sizeOf, isWhole, isScore, isWord, isPhraseWord, isHistoryWord, isLastWord, rangesB, rangesP, rangesT, isInRange};
 
 // The number, or 0 where it is negative.
 pub fn natural(x: i32) -> usize

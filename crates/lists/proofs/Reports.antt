@@ -7,8 +7,8 @@ use lib.ListN.{set}
 use mir.Syntax.{w64}
 use mir.Val.{toZ}
 use mir.ValLaws.{toZ-pos}
-use Rattle.notes.specs.Reply.{filledWith}
-use Rattle.notes.proofs.Filled.{filled-none, filled-next}
+use Rattle.meaning.specs.Reply.{filledWith}
+use Rattle.meaning.proofs.Filled.{filled-none, filled-next}
 
 pub put-one : (a : ℤ) (report : List ℤ) → set report 0 a ≡ filledWith (a ∷ []) report
 put-one a report = filled-next [] report a (filled-none report)

@@ -5,7 +5,7 @@ use mathlib.Core.Path.{_≡_, refl, sym, _∙_, ap}
 use mathlib.Core.List.{List, [], _∷_, _++_}
 use lib.ListN.{length, getD, take, drop, length-append, length-drop}
 use lib.Seq.{length-take-le, take-at, drop-append-add, drop-drop}
-use Rattle.notes.specs.declared.Step.{Step}
+use Rattle.meaning.specs.declared.Step.{Step}
 use Rattle.records.specs.declared.Plain.{Plain}
 use Rattle.records.specs.Plain.{stepIn, stepsTo, stepsOf}
 use Rattle.lists.specs.Steps.{recordsIn, StepsPut}

@@ -1,6 +1,6 @@
 -- Counts that a signed 64-bit number holds, so that a report can have them.
 use Prim.Native.Nat.{_<_}
-use Rattle.notes.specs.declared.Answer.{Answer}
+use Rattle.meaning.specs.declared.Answer.{Answer}
 
 pub record Countable (a : Answer) : Type 0 where
   pub steps : a .steps < 9_223_372_036_854_775_808

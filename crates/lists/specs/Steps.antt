@@ -3,8 +3,8 @@ use Prim.Native.Nat.{ℕ, _*_}
 use mathlib.Core.Path.{_≡_}
 use mathlib.Core.List.{List, [], _∷_}
 use lib.ListN.{length, drop}
-use Rattle.notes.specs.Reply.{writtenOver}
-use Rattle.notes.specs.declared.Step.{Step}
+use Rattle.meaning.specs.Reply.{writtenOver}
+use Rattle.meaning.specs.declared.Step.{Step}
 use Rattle.records.specs.Plain.{stepsOf}
 use Rattle.records.specs.declared.Plain.{Plain}
 

@@ -1,9 +1,9 @@
 // The report of a call: as many of its values as the caller's list has places.
-use notes::Answer;
+use meaning::Answer;
 ghost use mathlib.Core.Path.{_≡_};
 ghost use mathlib.Core.List.{_∷_, []};
 ghost use lib.ListN.{set};
-ghost use Rattle.notes.specs.Reply.{filledWith, countsOf};
+ghost use Rattle.meaning.specs.Reply.{filledWith, countsOf};
 ghost use Rattle.lists.specs.Report.{Countable};
 
 // Puts a value at a place of a list, if the list has that place.

@@ -11,10 +11,10 @@ use lib.ListN.{length, length-map}
 use Rattle.laws.specs.Lists.{all, keep, count, noneTwice}
 use Rattle.laws.proofs.Lists.{keep-length}
 use Rattle.laws.proofs.Tests.{both}
-use Rattle.notes.specs.Questions.{_unless_, _orelse_, number}
-use Rattle.notes.specs.Book.{Form, InList, phrasesMost, triplesMost, isP, isT, isWhole, isOneBFirst, isInRange, isNoTripleTwice, linesRefusal, entryOf, tripleOf, bookOfLines, loadedLines}
-use Rattle.notes.specs.declared.Refusal.{Refusal}
-use Rattle.notes.proofs.Chains.{rest-passes, test-passes}
+use Rattle.meaning.specs.Questions.{_unless_, _orelse_, number}
+use Rattle.meaning.specs.Book.{Form, InList, phrasesMost, triplesMost, isP, isT, isWhole, isOneBFirst, isInRange, isNoTripleTwice, linesRefusal, entryOf, tripleOf, bookOfLines, loadedLines}
+use Rattle.meaning.specs.declared.Refusal.{Refusal}
+use Rattle.meaning.proofs.Chains.{rest-passes, test-passes}
 use Rattle.ngrams.specs.Parts.{recordsMost, recordsFrom, recordsEnd, KeptFrom}
 use Rattle.ngrams.specs.Grams.{keysIn, triplesIn, sameKey, Indexed}
 use Rattle.ngrams.proofs.Differ.{kept-keys, kept-triples}
@@ -27,7 +27,7 @@ use Rattle.book.specs.Loaded.{SurveyOf}
 use Rattle.book.proofs.Counts.{survey-ps, survey-ts, survey-refusal}
 use Rattle.book.proofs.Triples.{grams-long, grams-hold}
 use Rattle.loading.specs.Loaded.{WholeAs, SurveyIs, Known}
-use Rattle.notes.proofs.Numbered.{number-from, refused-first}
+use Rattle.meaning.proofs.Numbered.{number-from, refused-first}
 
 -- ════ questions 3 to 5
 

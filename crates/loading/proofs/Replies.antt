@@ -7,17 +7,17 @@ use mathlib.Core.List.{List}
 use borrow.Author.Tests.{eq-eqb, ne-eqb}
 use lib.Dec.{eqb}
 use lib.IntN.{ℤ}
-use Rattle.notes.specs.Questions.{number}
-use Rattle.notes.specs.Book.{Book, bookRefusal}
-use Rattle.notes.specs.Reply.{reply, checkedReply, checkBook}
-use Rattle.notes.specs.declared.Checked.{Checked}
-use Rattle.notes.specs.declared.Checked.the-variants.{Passed, Refused as CheckRefused}
-use Rattle.notes.specs.declared.Refusal.{Refusal}
-use Rattle.notes.proofs.Chains.{reply-done, done-passes, refused-is}
+use Rattle.meaning.specs.Questions.{number}
+use Rattle.meaning.specs.Book.{Book, bookRefusal}
+use Rattle.meaning.specs.Reply.{reply, checkedReply, checkBook}
+use Rattle.meaning.specs.declared.Checked.{Checked}
+use Rattle.meaning.specs.declared.Checked.the-variants.{Passed, Refused as CheckRefused}
+use Rattle.meaning.specs.declared.Refusal.{Refusal}
+use Rattle.meaning.proofs.Chains.{reply-done, done-passes, refused-is}
 use Rattle.loading.specs.Loaded.{Answered, refusalOf, replied}
 use Rattle.loading.specs.declared.load.Loaded.{Loaded}
 use Rattle.loading.specs.declared.load.Loaded.the-variants.{Book as Passes, Refused}
-use Rattle.notes.proofs.Numbered.{number-from, refused-reply}
+use Rattle.meaning.proofs.Numbered.{number-from, refused-reply}
 
 -- ════ the reply
 

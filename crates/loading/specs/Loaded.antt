@@ -6,10 +6,10 @@ use mathlib.Core.List.{List}
 use lib.IntN.{ℤ}
 use lib.ListN.{length}
 use Rattle.laws.specs.Lists.{all, noneTwice}
-use Rattle.notes.specs.Questions.{number}
-use Rattle.notes.specs.Book.{Form, isWhole, Book}
-use Rattle.notes.specs.declared.Checked.{Checked}
-use Rattle.notes.specs.declared.Checked.the-variants.{Passed, Refused as CheckRefused}
+use Rattle.meaning.specs.Questions.{number}
+use Rattle.meaning.specs.Book.{Form, isWhole, Book}
+use Rattle.meaning.specs.declared.Checked.{Checked}
+use Rattle.meaning.specs.declared.Checked.the-variants.{Passed, Refused as CheckRefused}
 use Rattle.ngrams.specs.Grams.{keysIn, triplesIn, sameKey, Indexed}
 use Rattle.book.specs.declared.survey.Survey.{Survey}
 use Rattle.book.specs.declared.loaded.Surveyed.{Surveyed}

@@ -3,11 +3,11 @@ use crate::load;
 use crate::load::Loaded;
 use book::target;
 use book::target::Part;
-use notes::Checked;
+use meaning::Checked;
 ghost use mathlib.Core.Path.{_≡_};
 ghost use lib.Dec.{eqb};
-ghost use Rattle.notes.specs.Book.{bookRefusal, targetPart};
-ghost use Rattle.notes.specs.Reply.{checkedReply, checkBook};
+ghost use Rattle.meaning.specs.Book.{bookRefusal, targetPart};
+ghost use Rattle.meaning.specs.Reply.{checkedReply, checkBook};
 ghost use Rattle.book.specs.Target.{IsPart, IsPartOf};
 ghost use Rattle.loading.specs.Loaded.{replied};
 

@@ -13,7 +13,7 @@ use Rattle.laws.specs.Index.{Walk}
 use Rattle.laws.specs.Integers.{natOf}
 use Rattle.laws.proofs.Tests.{by-test}
 use Rattle.laws.proofs.Index.{chained-none, chained-more, chained-same, walk-start, walk-step, walk-less}
-use Rattle.notes.specs.Book.{Triple}
+use Rattle.meaning.specs.Book.{Triple}
 use Rattle.ngrams.specs.declared.Key.{Key}
 use Rattle.ngrams.specs.Parts.{bucketCount, recordsMost, linksFrom, recordsFrom, recordsEnd, naturalIn, headAt, linkAt, KeptFrom, KeptBelow}
 use Rattle.ngrams.specs.Grams.{recordAt, keyAt, scoreAt, tripleAt, bucketOf, bucketAt, holds, Room, Indexed, Cleared, Inserted}

@@ -16,8 +16,8 @@ use Rattle.laws.proofs.Tests.{both, same-test}
 use Rattle.laws.proofs.Linear.{signed, num}
 use Rattle.laws.proofs.Lists.{all-mem, keep-mem, keep-length}
 use Rattle.laws.proofs.Order.{yes-≡}
-use Rattle.notes.specs.Book.{Form, numberAt, isT, isWhole, isInRange, isHistoryWord, isLastWord, isScore, rangesT, sizeOf, tripleKey, isNoTripleTwice, tripleOf, Book}
-use Rattle.notes.specs.Derivation.{listedScore, tripleScore}
+use Rattle.meaning.specs.Book.{Form, numberAt, isT, isWhole, isInRange, isHistoryWord, isLastWord, isScore, rangesT, sizeOf, tripleKey, isNoTripleTwice, tripleOf, Book}
+use Rattle.meaning.specs.Derivation.{listedScore, tripleScore}
 use Rattle.ngrams.specs.declared.Key.{Key}
 use Rattle.ngrams.specs.Parts.{naturalIn}
 use Rattle.ngrams.specs.Grams.{recordAt, keyAt, scoreAt, tripleAt, firsts, keysIn, triplesIn, sameKey}

@@ -6,7 +6,7 @@ use mathlib.Core.List.{List, [], _∷_}
 use lib.IntN.{ℤ, pos}
 use lib.ListN.{length, getD}
 use Rattle.laws.proofs.Fields.{from-long, from-far, from-first, from-near}
-use Rattle.notes.specs.Book.{numberAt}
+use Rattle.meaning.specs.Book.{numberAt}
 use Rattle.ngrams.specs.Grams.{recordAt, putRecord}
 
 pub put-long : (index line : List ℤ) (k : ℕ) → length (putRecord index k line) ≡ length index

@@ -10,8 +10,8 @@ use Rattle.laws.specs.Index.{latest}
 use Rattle.laws.specs.Lists.{noneTwice}
 use Rattle.laws.proofs.Index.{latest-at, latest-le, latest-lt, latest-none}
 use Rattle.laws.proofs.Tests.{clash, is-false}
-use Rattle.notes.specs.Book.{Triple}
-use Rattle.notes.specs.Derivation.{isTriple, listedScore}
+use Rattle.meaning.specs.Book.{Triple}
+use Rattle.meaning.specs.Derivation.{isTriple, listedScore}
 use Rattle.ngrams.specs.declared.Key.{Key}
 use Rattle.ngrams.specs.declared.Score.{Score}
 use Rattle.ngrams.specs.declared.Score.the-variants.{Is, Unseen}

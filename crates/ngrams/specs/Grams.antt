@@ -8,7 +8,7 @@ use lib.IntN.{ℤ, pos}
 use lib.ListN.{length, getD, set}
 use Rattle.laws.specs.Index.{latest, Chained}
 use Rattle.laws.specs.Lists.{noneTwice}
-use Rattle.notes.specs.Book.{Triple, numberAt}
+use Rattle.meaning.specs.Book.{Triple, numberAt}
 use Rattle.ngrams.specs.declared.Key.{Key}
 use Rattle.ngrams.specs.declared.Score.{Score}
 use Rattle.ngrams.specs.declared.Score.the-variants.{Is, Unseen}

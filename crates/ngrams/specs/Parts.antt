@@ -5,7 +5,7 @@ use mathlib.Core.List.{List}
 use lib.IntN.{ℤ, pos}
 use lib.ListN.{length, getD}
 use Rattle.laws.specs.Integers.{natOf}
-use Rattle.notes.specs.Book.{triplesMost}
+use Rattle.meaning.specs.Book.{triplesMost}
 
 -- how many buckets there are
 abbrev pub bucketCount : ℕ

@@ -7,7 +7,7 @@ ghost use Prim.Native.Nat.{ℕ, _+_, _*_, _<_, _≤_};
 ghost use lib.ListN.{length};
 ghost use Rattle.laws.specs.Index.{latest};
 ghost use Rattle.laws.specs.Lists.{noneTwice};
-ghost use Rattle.notes.specs.Derivation.{listedScore};
+ghost use Rattle.meaning.specs.Derivation.{listedScore};
 ghost use Rattle.ngrams.specs.Parts.{bucketCount, recordSize, recordsFrom, recordsEnd, naturalIn};
 ghost use Rattle.ngrams.specs.Grams.{recordAt, keyAt, keysIn, triplesIn, putRecord, sameKey, holds, bucketOf, Room, Indexed, Cleared, Inserted, earlierAlike, Compared, latestScore};
 

@@ -7,14 +7,14 @@ use mathlib.Core.List.{List, [], _∷_}
 use lib.IntN.{ℤ}
 use lib.ListN.{length, getD}
 use Rattle.laws.specs.Integers.{Within, natOf}
-use Rattle.notes.specs.Bounds.{scoreMost, penaltyMost}
-use Rattle.notes.specs.Questions.{_orelse_, number}
-use Rattle.notes.specs.Book.{InList, numberAt, naturalAt, isOneBFirst, bookRefusal, bookOf, bookOfLines, loadedLines}
-use Rattle.notes.specs.Direction.{wordCount, directionRefusal}
-use Rattle.notes.specs.Derivation.{listedScore, tripleScore}
-use Rattle.notes.specs.declared.Refusal.{Refusal}
-use Rattle.notes.proofs.Ranges.{lines-passed, loaded-ranged}
-use Rattle.notes.proofs.Bounds.{triple-within}
+use Rattle.meaning.specs.Bounds.{scoreMost, penaltyMost}
+use Rattle.meaning.specs.Questions.{_orelse_, number}
+use Rattle.meaning.specs.Book.{InList, numberAt, naturalAt, isOneBFirst, bookRefusal, bookOf, bookOfLines, loadedLines}
+use Rattle.meaning.specs.Direction.{wordCount, directionRefusal}
+use Rattle.meaning.specs.Derivation.{listedScore, tripleScore}
+use Rattle.meaning.specs.declared.Refusal.{Refusal}
+use Rattle.meaning.proofs.Ranges.{lines-passed, loaded-ranged}
+use Rattle.meaning.proofs.Bounds.{triple-within}
 use Rattle.laws.specs.Lists.{noneTwice}
 use Rattle.ngrams.specs.Grams.{triplesIn, sameKey, Indexed}
 use Rattle.ngrams.proofs.Index.{below-indexed}
@@ -24,14 +24,14 @@ use Rattle.book.specs.Loaded.{sizeAt}
 use Rattle.book.specs.Entries.{EntriesAt, Placed}
 use Rattle.book.proofs.Cuts.{LineAt, line-here, line-number, lines-end}
 use Rattle.loading.specs.Loaded.{Known}
-use Rattle.notes.proofs.Numbered.{number-from, refused-first}
-use Rattle.derivation.specs.declared.Task.{Task}
+use Rattle.meaning.proofs.Numbered.{number-from, refused-first}
+use Rattle.derivation.specs.declared.Setup.{Setup}
 use Rattle.derivation.specs.Model.{Model, modelScore}
 use Rattle.derivation.specs.Prepared.{Prepared}
 use Rattle.opening.specs.declared.Counts.{Counts}
 use Rattle.opening.specs.declared.Start.{Start}
 use Rattle.opening.specs.declared.Start.the-variants.{Ready, Refused}
-use Rattle.opening.specs.Opening.{TaskOf, Open, BegunAs, StartOf}
+use Rattle.opening.specs.Opening.{SetupOf, Open, BegunAs, StartOf}
 
 -- ════ the B line
 
@@ -78,9 +78,9 @@ module _ (loaded : List ℤ) (passed : bookRefusal loaded ≡ 0) where
   unseen-small = subst (Within scoreMost) unseen-read (loaded-ranged loaded passed .unseen-within)
 
   -- the numbers that code reads there
-  pub task-is : (n : ℕ) (counts : Counts) (limit : ℕ) (eta unseen : ℤ) → limit ≡ naturalAt loaded 1 → eta ≡ numberAt loaded 2 → unseen ≡ numberAt loaded 3
-      → TaskOf (bookOf loaded) n counts (record { n = n; limit = limit; eta = eta; unseen = unseen; phrases = counts .phrases; triples = counts .triples })
-  task-is n counts limit eta unseen a b c = record {
+  pub setup-is : (n : ℕ) (counts : Counts) (limit : ℕ) (eta unseen : ℤ) → limit ≡ naturalAt loaded 1 → eta ≡ numberAt loaded 2 → unseen ≡ numberAt loaded 3
+      → SetupOf (bookOf loaded) n counts (record { n = n; limit = limit; eta = eta; unseen = unseen; phrases = counts .phrases; triples = counts .triples })
+  setup-is n counts limit eta unseen a b c = record {
     n-is = refl;
     limit-is = a ∙ sym limit-read;
     eta-is = b ∙ sym eta-read;
@@ -91,8 +91,8 @@ module _ (loaded : List ℤ) (passed : bookRefusal loaded ≡ 0) where
 
 -- ════ the model
 
-module _ {loaded index : List ℤ} {counts : Counts} {t : Task} (direction : List ℕ) (o : Open loaded index counts) (d : directionRefusal direction ≡ 0)
-    (k : TaskOf (bookOf loaded) (length direction) counts t) where
+module _ {loaded index : List ℤ} {counts : Counts} {t : Setup} (direction : List ℕ) (o : Open loaded index counts) (d : directionRefusal direction ≡ 0)
+    (k : SetupOf (bookOf loaded) (length direction) counts t) where
   -- the triples in the list are the book's
   listed : triplesIn index (t .triples) ≡ bookOf loaded .triples
   listed = ap (triplesIn index) (k .triples-are) ∙ o .triples-are

@@ -5,12 +5,12 @@ use mathlib.Core.Bool.{true}
 use mathlib.Core.List.{List}
 use lib.IntN.{ℤ}
 use Rattle.laws.specs.Lists.{noneTwice}
-use Rattle.notes.specs.Questions.{_orelse_, number}
-use Rattle.notes.specs.Book.{Book, bookRefusal, bookOf}
-use Rattle.notes.specs.Direction.{directionRefusal}
+use Rattle.meaning.specs.Questions.{_orelse_, number}
+use Rattle.meaning.specs.Book.{Book, bookRefusal, bookOf}
+use Rattle.meaning.specs.Direction.{directionRefusal}
 use Rattle.ngrams.specs.Grams.{keysIn, triplesIn, sameKey, Indexed}
 use Rattle.book.specs.Entries.{EntriesAt}
-use Rattle.derivation.specs.declared.Task.{Task}
+use Rattle.derivation.specs.declared.Setup.{Setup}
 use Rattle.derivation.specs.Prepared.{Prepared}
 use Rattle.opening.specs.declared.Counts.{Counts}
 use Rattle.opening.specs.declared.Opened.{Opened}
@@ -36,7 +36,7 @@ OpenedAs loaded index (BookRefused refusal) = bookRefusal loaded ≡ number refu
 -- ════ questions 9 and 10
 
 -- the numbers of the B line, and the counts given
-pub record TaskOf (book : Book) (n : ℕ) (counts : Counts) (t : Task) : Type 0 where
+pub record SetupOf (book : Book) (n : ℕ) (counts : Counts) (t : Setup) : Type 0 where
   pub n-is : t .n ≡ n
   pub limit-is : t .limit ≡ book .limit
   pub eta-is : t .eta ≡ book .eta

@@ -1,17 +1,17 @@
 // A loaded book is opened once: questions 2 to 6, the index of its n-grams and the places of its entries. Then a direction is
 // begun: questions 9 and 10, and the numbers that a search or a score works on.
 use book::entries;
-use derivation::Task;
+use derivation::Setup;
 use loading::load;
 use loading::load::Loaded;
-use notes::Checked;
-use notes::Refusal;
+use meaning::Checked;
+use meaning::Refusal;
 ghost use mathlib.Core.Path.{_≡_};
 ghost use Prim.Native.Nat.{_≤_};
 ghost use lib.ListN.{length};
-ghost use Rattle.notes.specs.Book.{bookRefusal, bookOf};
+ghost use Rattle.meaning.specs.Book.{bookRefusal, bookOf};
 ghost use Rattle.book.specs.Entries.{indexSize};
-ghost use Rattle.opening.specs.Opening.{Open, OpenedAs, TaskOf, BegunAs, StartOf};
+ghost use Rattle.opening.specs.Opening.{Open, OpenedAs, SetupOf, BegunAs, StartOf};
 
 // How many entries and how many triples a book has.
 pub struct Counts {
@@ -27,7 +27,7 @@ pub enum Opened {
 
 // What a direction answers to questions 9 and 10: the numbers that a search or a score works on, or the refusal.
 pub enum Start {
-    Ready(Task),
+    Ready(Setup),
     Refused(Refusal),
 }
 
@@ -48,14 +48,14 @@ pub fn open_book(book: &[i32], index: &mut [i32]) -> Opened
 }
 
 // The numbers of the B line: the reordering limit, the penalty, and the score of an unseen triple; beside them the counts.
-fn task_of(book: &[i32], n: usize, counts: Counts) -> Task
+fn setup_of(book: &[i32], n: usize, counts: Counts) -> Setup
     requires { ⌜ bookRefusal (now book) ≡ 0 ⌝ }
-    ensures { λ t. ⌜ TaskOf (bookOf (now (book .entry))) n counts t ⌝ }
+    ensures { λ t. ⌜ SetupOf (bookOf (now (book .entry))) n counts t ⌝ }
 {
     let limit = lines::natural_at(book, 1);
     let eta = lines::number_at(book, 2);
     let unseen = lines::number_at(book, 3);
-    Task {
+    Setup {
         n,
         limit,
         eta: eta as i64,
@@ -71,7 +71,7 @@ pub fn begin(book: &[i32], index: &[i32], counts: Counts, direction: &[u16]) -> 
     ensures { λ r. ⌜ BegunAs (now (book .entry)) (now (direction .entry)) (now (index .entry)) r ⌝ }
 {
     match direction::check_direction(direction) {
-        Checked::Passed => Start::Ready(task_of(book, direction.len(), counts)),
+        Checked::Passed => Start::Ready(setup_of(book, direction.len(), counts)),
         Checked::Refused(refusal) => Start::Refused(refusal),
     }
 }

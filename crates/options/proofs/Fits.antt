@@ -12,13 +12,13 @@ use lib.Seq.{slice, length-slice, getD-drop, getD-take}
 use Rattle.laws.specs.Lists.{eqList}
 use Rattle.laws.proofs.Tests.{is-false}
 use Rattle.laws.proofs.Lists.{eqList-drop, eqList-length}
-use Rattle.notes.specs.Book.{Book, Entry}
-use Rattle.notes.specs.Direction.{wordCount}
-use Rattle.notes.specs.Derivation.{isEntry, entryAt, wordsFromTo, fits}
-use Rattle.notes.specs.Search.{stepAt}
+use Rattle.meaning.specs.Book.{Book, Entry}
+use Rattle.meaning.specs.Direction.{wordCount}
+use Rattle.meaning.specs.Derivation.{isEntry, entryAt, wordsFromTo, fits}
+use Rattle.meaning.specs.Search.{stepAt}
 use Rattle.derivation.specs.Model.{wordIn, PhraseOf}
 use Rattle.derivation.specs.declared.Phrase.{Phrase}
-use Rattle.derivation.proofs.Says.{word-is}
+use Rattle.derivation.proofs.Rows.{word-is}
 
 -- the source words from place j on are the direction's
 abbrev pub agree : List ℕ → List ℕ → ℕ → ℕ → ℕ → Bool

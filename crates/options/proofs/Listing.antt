@@ -11,12 +11,12 @@ use lib.ListN.{length, getD, set, take, length-set, length-append, length-map, L
 use lib.Seq.{length-take-le, take-suc-set, getD-take, getD-append-add, getD-set-same, getD-set-other}
 use Rattle.laws.specs.Lists.{keep, concat, numbersFrom, oneTo}
 use Rattle.laws.proofs.Lists.{keep-++, keep-mem, keep-length, count-le, concat-++, numbers-next, numbers-length, getD-mem}
-use Rattle.notes.specs.Book.{Book}
-use Rattle.notes.specs.Direction.{wordCount}
-use Rattle.notes.specs.Derivation.{noStep, fits}
-use Rattle.notes.specs.Search.{stepAt, fittingSteps}
-use Rattle.notes.specs.declared.Step.{Step}
-use Rattle.notes.proofs.Steps.{fits-facts, listed-fits}
+use Rattle.meaning.specs.Book.{Book}
+use Rattle.meaning.specs.Direction.{wordCount}
+use Rattle.meaning.specs.Derivation.{noStep, fits}
+use Rattle.meaning.specs.Search.{stepAt, fittingSteps}
+use Rattle.meaning.specs.declared.Step.{Step}
+use Rattle.meaning.proofs.Steps.{fits-facts, listed-fits}
 use Rattle.options.specs.Options.{optionsFrom, startAt, optionIn, fittingAt, fittingTo, entryNumbers, StartPut, Listed, OptionsOf}
 
 -- ════ one entry more

@@ -4,12 +4,12 @@ use mathlib.Core.Path.{_≡_}
 use mathlib.Core.List.{List, _++_, map}
 use lib.ListN.{length, getD, take}
 use Rattle.laws.specs.Lists.{keep, concat, oneTo}
-use Rattle.notes.specs.Book.{Book}
+use Rattle.meaning.specs.Book.{Book}
 use Rattle.book.specs.Entries.{entriesMost}
-use Rattle.notes.specs.Direction.{wordCount}
-use Rattle.notes.specs.Derivation.{noStep, fits}
-use Rattle.notes.specs.Search.{stepAt, fittingSteps}
-use Rattle.notes.specs.declared.Step.{Step}
+use Rattle.meaning.specs.Direction.{wordCount}
+use Rattle.meaning.specs.Derivation.{noStep, fits}
+use Rattle.meaning.specs.Search.{stepAt, fittingSteps}
+use Rattle.meaning.specs.declared.Step.{Step}
 
 -- the entry numbers stand behind the starts of positions 1 to 32 and of what would be the 33rd, two numbers each
 abbrev pub optionsFrom : ℕ

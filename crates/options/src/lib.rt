@@ -2,7 +2,7 @@
 // They are one list of two parts: where the options of each first position begin, and then their entry numbers.
 use book::entries;
 use derivation::Phrase;
-use derivation::Task;
+use derivation::Setup;
 use derivation::model;
 use derivation::places;
 ghost use mathlib.Core.Path.{_≡_};
@@ -11,8 +11,8 @@ ghost use Prim.Native.Nat.{_+_, _*_, _^_, _≤_, _<_};
 ghost use lib.Dec.{eqb, leb};
 ghost use lib.ListN.{length};
 ghost use Rattle.laws.specs.Lists.{eqList};
-ghost use Rattle.notes.specs.Book.{Entry, bookOf};
-ghost use Rattle.notes.specs.Derivation.{wordsFromTo};
+ghost use Rattle.meaning.specs.Book.{Entry, bookOf};
+ghost use Rattle.meaning.specs.Derivation.{wordsFromTo};
 ghost use Rattle.book.specs.Entries.{EntriesAt};
 ghost use Rattle.derivation.specs.Model.{PhraseOf, Phrased};
 ghost use Rattle.options.specs.Options.{optionsFrom, optionsSize, startAt, optionIn, fittingAt, StartPut, Listed, OptionsOf};
@@ -80,7 +80,7 @@ pub fn fits_at(book: &[i32], p: Phrase, direction: &[u16], first: usize, last: u
 pub fn list_at(
     book: &[i32],
     index: &[i32],
-    t: Task,
+    t: Setup,
     direction: &[u16],
     first: usize,
     options: &mut [u16],
@@ -113,7 +113,7 @@ pub fn list_at(
 }
 
 // Every step that fits, by first position and then by entry, and where the options of each first position begin.
-pub fn list_options(book: &[i32], index: &[i32], t: Task, direction: &[u16], options: &mut [u16])
+pub fn list_options(book: &[i32], index: &[i32], t: Setup, direction: &[u16], options: &mut [u16])
     requires { ⌜ EntriesAt (now book) (now index) (t .phrases) ⌝ }
     requires { ⌜ length (now direction) ≤ 32 ⌝ }
     requires { ⌜ optionsSize ≤ length (now options) ⌝ }

@@ -11,24 +11,24 @@ use lib.Dec.{leb}
 use lib.IntN.{ℤ, pos, negsuc}
 use lib.ListN.{length, replicate}
 use Rattle.laws.proofs.Tests.{by-test, is-false, clash}
-use Rattle.notes.specs.Questions.{number}
-use Rattle.notes.specs.Book.{Book, bookOf}
-use Rattle.notes.specs.Derivation.{scoreOf}
-use Rattle.notes.specs.State.{Key, AreReachable}
-use Rattle.notes.specs.Search.{isOff, entered}
-use Rattle.notes.specs.Reply.{Reply, refused, done, Lent, Outcome, outcomeOf, proposalRefusal, scoreProposal, scoredReply, beforeSearch, decodeRefusal, decode, decodedReply, clearedIf, decodedStore, ListsAfter, Decodes}
-use Rattle.notes.specs.declared.Answer.{Answer}
-use Rattle.notes.specs.declared.Decoded.{Decoded}
-use Rattle.notes.specs.declared.Decoded.the-variants.{Done, Refused}
-use Rattle.notes.specs.declared.Scored.{Scored}
-use Rattle.notes.specs.declared.Scored.the-variants.{Score, Refused as ScoreRefused}
-use Rattle.notes.specs.declared.Refusal.{Refusal}
-use Rattle.notes.specs.declared.Refusal.the-variants.{StoreTooSmall, NoDerivation, LastSetEmpty}
-use Rattle.notes.specs.declared.Step.{Step}
-use Rattle.notes.proofs.Chains.{done-passes, refused-is, reply-done}
-use Rattle.notes.proofs.Demands as Notes
-use Rattle.notes.proofs.Reach.{keysEntered, entered-all, entered-few, entered-counted, never-13, always-13}
-use Rattle.notes.proofs.Numbered.{number-from, number-same, refused-reply}
+use Rattle.meaning.specs.Questions.{number}
+use Rattle.meaning.specs.Book.{Book, bookOf}
+use Rattle.meaning.specs.Derivation.{scoreOf}
+use Rattle.meaning.specs.State.{Key, AreReachable}
+use Rattle.meaning.specs.Search.{isOff, entered}
+use Rattle.meaning.specs.Reply.{Reply, refused, done, Lent, Outcome, outcomeOf, proposalRefusal, scoreProposal, scoredReply, beforeSearch, decodeRefusal, decode, decodedReply, clearedIf, decodedStore, ListsAfter, Decodes}
+use Rattle.meaning.specs.declared.Answer.{Answer}
+use Rattle.meaning.specs.declared.Decoded.{Decoded}
+use Rattle.meaning.specs.declared.Decoded.the-variants.{Done, Refused}
+use Rattle.meaning.specs.declared.Scored.{Scored}
+use Rattle.meaning.specs.declared.Scored.the-variants.{Score, Refused as ScoreRefused}
+use Rattle.meaning.specs.declared.Refusal.{Refusal}
+use Rattle.meaning.specs.declared.Refusal.the-variants.{StoreTooSmall, NoDerivation, LastSetEmpty}
+use Rattle.meaning.specs.declared.Step.{Step}
+use Rattle.meaning.proofs.Chains.{done-passes, refused-is, reply-done}
+use Rattle.meaning.proofs.Demands as Notes
+use Rattle.meaning.proofs.Reach.{keysEntered, entered-all, entered-few, entered-counted, never-13, always-13}
+use Rattle.meaning.proofs.Numbered.{number-from, number-same, refused-reply}
 use Rattle.phrase.specs.Demands.{DecodeDemands, ScoreDemands}
 
 -- ════ a decode

@@ -4,13 +4,13 @@ use mathlib.Core.Path.{_≡_, sym, _∙_, ap}
 use mathlib.Core.List.{List, [], _∷_}
 use lib.IntN.{ℤ}
 use lib.ListN.{length}
-use Rattle.notes.specs.Reply.{done, Outcome, outcomeOf, decode, decodedReply, writtenOver, Decodes}
-use Rattle.notes.specs.declared.Answer.{Answer}
-use Rattle.notes.specs.declared.Decoded.{Decoded}
-use Rattle.notes.specs.declared.Decoded.the-variants.{Done}
-use Rattle.notes.specs.declared.Step.{Step}
-use Rattle.notes.proofs.Drawers.{short, direction, minus, off, step}
-use Rattle.notes.proofs.Only.{Only, Decoding, only-d, only-e, decode-d, decode-e}
+use Rattle.meaning.specs.Reply.{done, Outcome, outcomeOf, decode, decodedReply, writtenOver, Decodes}
+use Rattle.meaning.specs.declared.Answer.{Answer}
+use Rattle.meaning.specs.declared.Decoded.{Decoded}
+use Rattle.meaning.specs.declared.Decoded.the-variants.{Done}
+use Rattle.meaning.specs.declared.Step.{Step}
+use Rattle.meaning.proofs.Drawers.{short, direction, minus, off, step}
+use Rattle.meaning.proofs.Only.{Only, Decoding, only-d, only-e, decode-d, decode-e}
 use Rattle.phrase.proofs.Demanded.{done-result, decode-demands}
 
 same-score : (a : Answer) (o : Outcome) → decodedReply (Done a) ≡ done o → a .score ≡ o .score

@@ -4,15 +4,15 @@ use mathlib.Core.Path.{_≡_, refl, ap, _∙_}
 use mathlib.Core.List.{List}
 use lib.IntN.{ℤ}
 use lib.ListN.{take}
-use Rattle.notes.specs.Questions.{_orelse_}
-use Rattle.notes.specs.Book.{bookRefusal, bookOf}
-use Rattle.notes.specs.Direction.{wordCount, directionRefusal}
-use Rattle.notes.specs.Derivation.{scoreOf}
-use Rattle.notes.specs.State.{start}
-use Rattle.notes.specs.Reply.{Reply, reply, stepsRefusal, proposalRefusal, scoreProposal, scoredReply}
-use Rattle.notes.specs.declared.Step.{Step}
-use Rattle.notes.specs.declared.Scored.{Scored}
-use Rattle.notes.proofs.Demands.{direction-to}
+use Rattle.meaning.specs.Questions.{_orelse_}
+use Rattle.meaning.specs.Book.{bookRefusal, bookOf}
+use Rattle.meaning.specs.Direction.{wordCount, directionRefusal}
+use Rattle.meaning.specs.Derivation.{scoreOf}
+use Rattle.meaning.specs.State.{start}
+use Rattle.meaning.specs.Reply.{Reply, reply, stepsRefusal, proposalRefusal, scoreProposal, scoredReply}
+use Rattle.meaning.specs.declared.Step.{Step}
+use Rattle.meaning.specs.declared.Scored.{Scored}
+use Rattle.meaning.proofs.Demands.{direction-to}
 use Rattle.proposal.proofs.Long.{front-decides}
 use Rattle.records.specs.declared.Plain.{Plain}
 use Rattle.records.specs.Plain.{stepsOf, Gathered}

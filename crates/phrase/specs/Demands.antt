@@ -10,21 +10,21 @@ use mathlib.Core.List.{List, [], List·Memᴰ}
 use lib.IntN.{ℤ, pos, negsuc}
 use lib.Signed.{_≤ℤ_}
 use lib.ListN.{length, replicate}
-use Rattle.notes.specs.Questions.{number}
-use Rattle.notes.specs.Book.{Book, bookOf, bookRefusal}
-use Rattle.notes.specs.Direction.{directionRefusal}
-use Rattle.notes.specs.Derivation.{isValid, scoreOf}
-use Rattle.notes.specs.State.{Key, Hyp, AreReachable}
-use Rattle.notes.specs.Search.{entered, lastSet}
-use Rattle.notes.specs.Reply.{Lent, proposalRefusal, beforeSearch, decodeRefusal, Written}
-use Rattle.notes.specs.declared.Step.{Step}
-use Rattle.notes.specs.declared.Answer.{Answer}
-use Rattle.notes.specs.declared.Decoded.{Decoded}
-use Rattle.notes.specs.declared.Decoded.the-variants.{Done, Refused}
-use Rattle.notes.specs.declared.Scored.{Scored}
-use Rattle.notes.specs.declared.Scored.the-variants.{Score, Refused as ScoreRefused}
-use Rattle.notes.specs.declared.Refusal.{Refusal}
-use Rattle.notes.specs.declared.Refusal.the-variants.{StoreTooSmall, NoDerivation, LastSetEmpty}
+use Rattle.meaning.specs.Questions.{number}
+use Rattle.meaning.specs.Book.{Book, bookOf, bookRefusal}
+use Rattle.meaning.specs.Direction.{directionRefusal}
+use Rattle.meaning.specs.Derivation.{isValid, scoreOf}
+use Rattle.meaning.specs.State.{Key, Hyp, AreReachable}
+use Rattle.meaning.specs.Search.{entered, lastSet}
+use Rattle.meaning.specs.Reply.{Lent, proposalRefusal, beforeSearch, decodeRefusal, Written}
+use Rattle.meaning.specs.declared.Step.{Step}
+use Rattle.meaning.specs.declared.Answer.{Answer}
+use Rattle.meaning.specs.declared.Decoded.{Decoded}
+use Rattle.meaning.specs.declared.Decoded.the-variants.{Done, Refused}
+use Rattle.meaning.specs.declared.Scored.{Scored}
+use Rattle.meaning.specs.declared.Scored.the-variants.{Score, Refused as ScoreRefused}
+use Rattle.meaning.specs.declared.Refusal.{Refusal}
+use Rattle.meaning.specs.declared.Refusal.the-variants.{StoreTooSmall, NoDerivation, LastSetEmpty}
 
 -- ════ a decode: what is handed in, each lent list before (₀) and after (₁), and the result
 

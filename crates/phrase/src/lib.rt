@@ -1,9 +1,9 @@
 // The calls of document 01 that take a caller's list of step records.
-use notes::Decoded;
-use notes::Scored;
-use notes::Step;
+use meaning::Decoded;
+use meaning::Scored;
+use meaning::Step;
 ghost use mathlib.Core.Path.{_≡_};
-ghost use Rattle.notes.specs.Reply.{scoredReply, scoreProposal, Decodes};
+ghost use Rattle.meaning.specs.Reply.{scoredReply, scoreProposal, Decodes};
 
 // "Scoring a proposed list", of any length: questions 2 to 6, 9, 10 and 16 to 19, and the score of the steps where none
 // refuses. The first 33 records decide: of 32 words none is left for the 33rd.

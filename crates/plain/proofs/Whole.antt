@@ -5,14 +5,14 @@ use mathlib.Core.Path.{_≡_, refl, sym, _∙_, ap}
 use mathlib.Core.List.{List}
 use lib.IntN.{ℤ}
 use lib.ListN.{length}
-use Rattle.notes.specs.Questions.{_orelse_, number}
-use Rattle.notes.specs.Book.{bookRefusal, bookOf}
-use Rattle.notes.specs.Direction.{directionRefusal}
-use Rattle.notes.specs.Reply.{refused, Lent, beforeSearch, afterSearch, decodeRefusal, decode, clearedIf, decodedStore}
-use Rattle.notes.specs.declared.Refusal.{Refusal}
-use Rattle.notes.proofs.Numbered.{number-from, refused-first, refused-before-all, refused-reply}
-use Rattle.decoder.specs.Core.{refusedBy, CoreDecodes}
-use Rattle.answer.specs.declared.Core.{Core}
+use Rattle.meaning.specs.Questions.{_orelse_, number}
+use Rattle.meaning.specs.Book.{bookRefusal, bookOf}
+use Rattle.meaning.specs.Direction.{directionRefusal}
+use Rattle.meaning.specs.Reply.{refused, Lent, beforeSearch, afterSearch, decodeRefusal, decode, clearedIf, decodedStore}
+use Rattle.meaning.specs.declared.Refusal.{Refusal}
+use Rattle.meaning.proofs.Numbered.{number-from, refused-first, refused-before-all, refused-reply}
+use Rattle.decoder.specs.Decodes.{refusedBy, PlainDecodes}
+use Rattle.answer.specs.declared.PlainReply.{PlainReply}
 use Rattle.decoder.proofs.Replies.{refuses}
 
 kept-store : (k : ℕ) (store : List ℤ) → 1 ≤ k → store ≡ clearedIf k store
@@ -34,8 +34,8 @@ module _ (loaded : List ℤ) (direction : List ℕ) (width : ℤ) (lent : Lent) 
   unfolding decodedStore
   store-is store = kept-store (number refusal) store (number-from refusal) ∙ ap (λ (k : ℕ). clearedIf k store) (sym before-is)
 
-pub refused-core : (loaded : List ℤ) (direction : List ℕ) (width : ℤ) (room : ℕ) (words : List ℕ) (store : List ℤ) (refusal : Refusal)
-    → (bookRefusal loaded orelse directionRefusal direction) ≡ number refusal → {r : Core} → r ≡ refusedBy refusal → CoreDecodes loaded direction width room words words store store r
-refused-core loaded direction width room words store refusal e i =
+pub refused-plain : (loaded : List ℤ) (direction : List ℕ) (width : ℤ) (room : ℕ) (words : List ℕ) (store : List ℤ) (refusal : Refusal)
+    → (bookRefusal loaded orelse directionRefusal direction) ≡ number refusal → {r : PlainReply} → r ≡ refusedBy refusal → PlainDecodes loaded direction width room words words store store r
+refused-plain loaded direction width room words store refusal e i =
     let lent : Lent = record { steps = room; words = length words; store = length store } in
     refuses loaded direction width room words store refusal (decode-is loaded direction width lent refusal e) refl (store-is loaded direction width lent refusal e store) i

@@ -1,10 +1,10 @@
 // Decoding on plain numbers, with all that a search needs in local arrays: about 460,000 bytes of stack.
-use answer::Core;
+use answer::PlainReply;
 use book::entries::INDEX_SIZE;
 use decoder::decode;
-use extending::Job;
+use extending::Beam;
 use opening::Start;
-ghost use Rattle.decoder.specs.Core.{CoreDecodes};
+ghost use Rattle.decoder.specs.Decodes.{PlainDecodes};
 
 // Questions 2 to 6, 9 and 10, then 11 to 15 and the answer, for a step list of `room` places.
 pub fn decode_plain(
@@ -14,20 +14,20 @@ pub fn decode_plain(
     room: usize,
     words: &mut [u16],
     store: &mut [i64],
-) -> Core
-    ensures { λ r. ⌜ CoreDecodes (now (book .entry)) (now (direction .entry)) width room (now (words .entry)) (now (words .exit)) (now (store .entry)) (now (store .exit)) r ⌝ }
+) -> PlainReply
+    ensures { λ r. ⌜ PlainDecodes (now (book .entry)) (now (direction .entry)) width room (now (words .entry)) (now (words .exit)) (now (store .entry)) (now (store .exit)) r ⌝ }
 {
     let mut index = [0i32; INDEX_SIZE];
     let mut options = [0u16; options::OPTIONS_SIZE];
     match opening::open_and_begin(book, direction, &mut index) {
-        Start::Ready(task) => {
-            let job = Job { task, width };
+        Start::Ready(setup) => {
+            let beam = Beam { setup, width };
             decode::decode_with(
                 book,
                 direction,
                 &index,
                 &mut options,
-                job,
+                beam,
                 room,
                 words,
                 store,

@@ -9,14 +9,14 @@ use lib.ListN.{length, getD, length-append}
 use Rattle.laws.specs.Integers.{Within}
 use Rattle.laws.specs.Lists.{concat}
 use Rattle.laws.proofs.Lists.{mem-getD}
-use Rattle.notes.specs.Questions.{number}
-use Rattle.notes.specs.Bounds.{wordSpan}
-use Rattle.notes.specs.Render.{decimal, printedLine, printedStep, printedRefusal, printedAnswer}
-use Rattle.notes.specs.Reply.{Outcome, answerOf, countsOf}
-use Rattle.notes.specs.State.{scoreBound}
-use Rattle.notes.specs.declared.Refusal.{Refusal}
-use Rattle.notes.specs.declared.Step.{Step}
-use Rattle.notes.proofs.Numbered.{number-to}
+use Rattle.meaning.specs.Questions.{number}
+use Rattle.meaning.specs.Bounds.{wordSpan}
+use Rattle.meaning.specs.Render.{decimal, printedLine, printedStep, printedRefusal, printedAnswer}
+use Rattle.meaning.specs.Reply.{Outcome, answerOf, countsOf}
+use Rattle.meaning.specs.State.{scoreBound}
+use Rattle.meaning.specs.declared.Refusal.{Refusal}
+use Rattle.meaning.specs.declared.Step.{Step}
+use Rattle.meaning.proofs.Numbered.{number-to}
 use Rattle.records.specs.Plain.{stepIn, stepsOf}
 use Rattle.records.proofs.Laws.{count-steps, step-at}
 use Rattle.printing.specs.Lines.{plainOf}

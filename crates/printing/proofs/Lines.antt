@@ -6,10 +6,10 @@ use native.Mathlib.Omega.{arith}
 use lib.IntN.{ℤ, pos}
 use lib.ListN.{length, length-append}
 use Rattle.laws.specs.Lists.{concat}
-use Rattle.notes.specs.Numerals.{newline}
-use Rattle.notes.specs.Reply.{outcomeOf, countsOf}
-use Rattle.notes.specs.Render.{printedLine, printedStep, printedAnswer}
-use Rattle.notes.specs.declared.Answer.{Answer}
+use Rattle.meaning.specs.Numerals.{newline}
+use Rattle.meaning.specs.Reply.{outcomeOf, countsOf}
+use Rattle.meaning.specs.Render.{printedLine, printedStep, printedAnswer}
+use Rattle.meaning.specs.declared.Answer.{Answer}
 use Rattle.records.specs.Plain.{stepsOf}
 use Rattle.records.proofs.Laws.{count-steps}
 use Rattle.printing.specs.Lines.{plainOf}

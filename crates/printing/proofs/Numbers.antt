@@ -13,8 +13,8 @@ use mir.Facts.{toZ-pos}
 use Rattle.laws.specs.Integers.{Within}
 use Rattle.laws.proofs.Bounds.{within-mono, within-pos}
 use Rattle.laws.proofs.Lists.{take-next}
-use Rattle.notes.specs.Bounds.{wordSpan}
-use Rattle.notes.specs.Render.{printedLine}
+use Rattle.meaning.specs.Bounds.{wordSpan}
+use Rattle.meaning.specs.Render.{printedLine}
 use Rattle.printing.specs.Lines.{Printable}
 
 pub none-put : Printable []

@@ -6,15 +6,15 @@ ghost use Prim.Native.Nat.{_+_, _*_, _≤_};
 ghost use lib.IntN.{pos};
 ghost use lib.ListN.{length, take};
 ghost use Rattle.laws.specs.Lists.{concat};
-ghost use Rattle.notes.specs.Questions.{number};
-ghost use Rattle.notes.specs.Reply.{outcomeOf, countsOf};
-ghost use Rattle.notes.specs.Render.{printedLine, printedStep, printedRefusal, printedAnswer};
+ghost use Rattle.meaning.specs.Questions.{number};
+ghost use Rattle.meaning.specs.Reply.{outcomeOf, countsOf};
+ghost use Rattle.meaning.specs.Render.{printedLine, printedStep, printedRefusal, printedAnswer};
 ghost use Rattle.records.specs.Plain.{stepsOf};
 ghost use Rattle.decimals.specs.Put.{Put, field};
 ghost use Rattle.printing.specs.Lines.{Printable, plainOf};
-use notes::Answer;
-use notes::Refusal;
-use notes::Step;
+use meaning::Answer;
+use meaning::Refusal;
+use meaning::Step;
 
 // Puts each number of a list after a comma.
 fn put_fields(out: &mut [u8], at: usize, numbers: &[i64]) -> usize
@@ -47,7 +47,7 @@ pub fn put_refusal(out: &mut [u8], at: usize, refusal: Refusal) -> usize
     requires { ⌜ at + length (printedRefusal (number refusal)) ≤ length (now out) ⌝ }
     ensures { λ r. ⌜ Put (printedRefusal (number refusal)) at r (now (out .entry)) (now (out .exit)) ⌝ }
 {
-    let numbers = [notes::number_of(refusal) as i64];
+    let numbers = [meaning::number_of(refusal) as i64];
     put_line(out, at, 82, &numbers)
 }
 

@@ -15,27 +15,27 @@ use Rattle.laws.proofs.Tests.{both-of, between}
 use Rattle.laws.proofs.Bits.{bits-length}
 use Rattle.laws.proofs.Bounds.{within-+, within-mono}
 use Rattle.laws.proofs.Lists.{count-le}
-use Rattle.coverage.specs.Runs.{RunsFrom, maskOf}
-use Rattle.coverage.proofs.Laws.{free-run, mask-fits}
-use Rattle.notes.specs.Bounds.{penaltyMost}
-use Rattle.notes.specs.Questions.{_unless_, within}
-use Rattle.notes.specs.Book.{Book, bookOf}
-use Rattle.notes.specs.Direction.{wordCount, directionRefusal, numbersRefusal}
-use Rattle.notes.specs.Derivation.{isEntry, entryAt, fits, jump}
-use Rattle.notes.specs.State.{Key, wordsCovered, isFree, mayExtend, nextKey, gain, gainBound, keyOf}
-use Rattle.notes.specs.Reply.{stepRefusal}
-use Rattle.notes.specs.declared.Step.{Step}
-use Rattle.notes.specs.declared.State.{State}
-use Rattle.notes.proofs.Chains.{first-passes, test-passes}
-use Rattle.notes.proofs.Steps.{Fits, fits-facts}
-use Rattle.notes.proofs.Cover.{cover-adds}
-use Rattle.notes.proofs.Ranges.{Ranged, loaded-ranged}
-use Rattle.notes.proofs.Bounds.{gain-within}
+use Rattle.positions.specs.Runs.{RunsFrom, maskOf}
+use Rattle.positions.proofs.Laws.{free-run, mask-fits}
+use Rattle.meaning.specs.Bounds.{penaltyMost}
+use Rattle.meaning.specs.Questions.{_unless_, within}
+use Rattle.meaning.specs.Book.{Book, bookOf}
+use Rattle.meaning.specs.Direction.{wordCount, directionRefusal, numbersRefusal}
+use Rattle.meaning.specs.Derivation.{isEntry, entryAt, fits, jump}
+use Rattle.meaning.specs.State.{Key, wordsCovered, isFree, mayExtend, nextKey, gain, gainBound, keyOf}
+use Rattle.meaning.specs.Reply.{stepRefusal}
+use Rattle.meaning.specs.declared.Step.{Step}
+use Rattle.meaning.specs.declared.State.{State}
+use Rattle.meaning.proofs.Chains.{first-passes, test-passes}
+use Rattle.meaning.proofs.Steps.{Fits, fits-facts}
+use Rattle.meaning.proofs.Cover.{cover-adds}
+use Rattle.meaning.proofs.Ranges.{Ranged, loaded-ranged}
+use Rattle.meaning.proofs.Bounds.{gain-within}
 use Rattle.derivation.specs.Model.{PhraseOf}
 use Rattle.derivation.specs.Next.{nextState, CanNext}
 use Rattle.derivation.specs.Prepared.{Prepared}
-use Rattle.proposal.specs.Proposal.{Ready, Follows}
-use Rattle.derivation.specs.declared.Task.{Task}
+use Rattle.proposal.specs.Proposal.{Bounded, Follows}
+use Rattle.derivation.specs.declared.Setup.{Setup}
 use Rattle.derivation.specs.declared.Phrase.{Phrase}
 use Rattle.options.proofs.Fits.{hasWords}
 use Rattle.derivation.proofs.Next.{next-key, next-score}
@@ -87,8 +87,8 @@ direction-few direction e =
     let b = h .1 in
     (omega arith, omega arith)
 
-module _ (loaded : List ℤ) (direction : List ℕ) (index : List ℤ) (t : Task) (P : Prepared loaded direction index t)
-    (s : State) (step : Step) (R : Ready direction s) (fit : fits (bookOf loaded) direction step ≡ true) where
+module _ (loaded : List ℤ) (direction : List ℕ) (index : List ℤ) (t : Setup) (P : Prepared loaded direction index t)
+    (s : State) (step : Step) (R : Bounded direction s) (fit : fits (bookOf loaded) direction step ≡ true) where
   abbrev book : Book
   book = bookOf loaded
 

@@ -12,16 +12,16 @@ use lib.Seq.{take-all}
 use Rattle.laws.specs.Lists.{numbersFrom}
 use Rattle.laws.proofs.Tests.{by-test}
 use Rattle.laws.proofs.Lists.{count-le, take-next, numbers-next}
-use Rattle.notes.specs.Questions.{_unless_}
-use Rattle.notes.specs.Book.{Book}
-use Rattle.notes.specs.Direction.{wordCount}
-use Rattle.notes.specs.Derivation.{noStep, fits, jump, scoreOf}
-use Rattle.notes.specs.State.{Key, start, wordsCovered, isFree, nextKey}
-use Rattle.notes.specs.Reply.{Reply, reply, stepsRefusal}
-use Rattle.notes.specs.declared.Step.{Step}
-use Rattle.notes.proofs.Chains.{first-passes, rest-passes, test-passes}
-use Rattle.notes.proofs.Steps.{fits-facts}
-use Rattle.notes.proofs.Cover.{cover-length, cover-adds, none-covered}
+use Rattle.meaning.specs.Questions.{_unless_}
+use Rattle.meaning.specs.Book.{Book}
+use Rattle.meaning.specs.Direction.{wordCount}
+use Rattle.meaning.specs.Derivation.{noStep, fits, jump, scoreOf}
+use Rattle.meaning.specs.State.{Key, start, wordsCovered, isFree, nextKey}
+use Rattle.meaning.specs.Reply.{Reply, reply, stepsRefusal}
+use Rattle.meaning.specs.declared.Step.{Step}
+use Rattle.meaning.proofs.Chains.{first-passes, rest-passes, test-passes}
+use Rattle.meaning.proofs.Steps.{fits-facts}
+use Rattle.meaning.proofs.Cover.{cover-length, cover-adds, none-covered}
 use Rattle.proposal.specs.Proposal.{stepIn, stepsIn}
 
 module _ (book : Book) (direction : List ℕ) where

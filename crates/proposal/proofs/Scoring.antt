@@ -14,20 +14,20 @@ use Rattle.laws.specs.Lists.{all, numbersFrom}
 use Rattle.laws.proofs.Tests.{same-test, both, both-of}
 use Rattle.laws.proofs.Bits.{bits-zero}
 use Rattle.search_theory.specs.Statements.{total}
-use Rattle.notes.specs.Questions.{_unless_, number}
-use Rattle.notes.specs.Book.{Book}
-use Rattle.notes.specs.Direction.{wordCount}
-use Rattle.notes.specs.Derivation.{fits, jump, scoreOf}
-use Rattle.notes.specs.State.{Key, start, isFree, mayExtend, nextKey, gain, keyOf}
-use Rattle.notes.specs.Search.{search}
-use Rattle.notes.specs.Reply.{Reply, refused, done, reply, stepRefusal, stepsRefusal}
-use Rattle.notes.specs.declared.Step.{Step}
-use Rattle.notes.specs.declared.State.{State}
-use Rattle.notes.specs.declared.Refusal.{Refusal}
-use Rattle.notes.proofs.Chains.{reply-done, reply-refused}
-use Rattle.notes.proofs.Numbered.{refused-reply}
-use Rattle.notes.proofs.Scores.{total-score}
-use Rattle.proposal.specs.Proposal.{stepIn, stepsIn, Ready, Follows}
+use Rattle.meaning.specs.Questions.{_unless_, number}
+use Rattle.meaning.specs.Book.{Book}
+use Rattle.meaning.specs.Direction.{wordCount}
+use Rattle.meaning.specs.Derivation.{fits, jump, scoreOf}
+use Rattle.meaning.specs.State.{Key, start, isFree, mayExtend, nextKey, gain, keyOf}
+use Rattle.meaning.specs.Search.{search}
+use Rattle.meaning.specs.Reply.{Reply, refused, done, reply, stepRefusal, stepsRefusal}
+use Rattle.meaning.specs.declared.Step.{Step}
+use Rattle.meaning.specs.declared.State.{State}
+use Rattle.meaning.specs.declared.Refusal.{Refusal}
+use Rattle.meaning.proofs.Chains.{reply-done, reply-refused}
+use Rattle.meaning.proofs.Numbered.{refused-reply}
+use Rattle.meaning.proofs.Scores.{total-score}
+use Rattle.proposal.specs.Proposal.{stepIn, stepsIn, Bounded, Follows}
 
 -- ════ 19: every word is covered exactly where the number has all its digits
 
@@ -81,7 +81,7 @@ module _ (book : Book) (direction : List ℕ) where
 
   -- what is left of a list, from the state s on, is worth the whole list from the start on
   pub record Scoring (steps : List Step) (s : State) (left : List Step) : Type 0 where
-    pub ready : Ready direction s
+    pub ready : Bounded direction s
     pub refusal-same : stepsRefusal book direction (keyOf n s) left ≡ stepsRefusal book direction (start n) steps
     pub score-same : s .score +ℤ gained (keyOf n s) left ≡ gained (start n) steps
 

@@ -7,13 +7,13 @@ use lib.IntN.{_+ℤ_}
 use lib.ListN.{getD}
 use Rattle.laws.specs.Integers.{Within}
 use Rattle.laws.specs.Lists.{numbersFrom}
-use Rattle.notes.specs.Questions.{number}
-use Rattle.notes.specs.Book.{Book}
-use Rattle.notes.specs.Direction.{wordCount}
-use Rattle.notes.specs.State.{wordsCovered, mayExtend, nextKey, gain, gainBound, keyOf}
-use Rattle.notes.specs.Reply.{stepRefusal}
-use Rattle.notes.specs.declared.Step.{Step}
-use Rattle.notes.specs.declared.State.{State}
+use Rattle.meaning.specs.Questions.{number}
+use Rattle.meaning.specs.Book.{Book}
+use Rattle.meaning.specs.Direction.{wordCount}
+use Rattle.meaning.specs.State.{wordsCovered, mayExtend, nextKey, gain, gainBound, keyOf}
+use Rattle.meaning.specs.Reply.{stepRefusal}
+use Rattle.meaning.specs.declared.Step.{Step}
+use Rattle.meaning.specs.declared.State.{State}
 use Rattle.proposal.specs.declared.Asked.{Asked}
 use Rattle.proposal.specs.declared.Asked.the-variants.{Next, Refused}
 
@@ -29,7 +29,7 @@ unfoldable pub stepsIn : List ℕ → ℕ → List Step
 stepsIn steps count = map (stepIn steps) (numbersFrom 0 count)
 
 -- the state's numbers are small: no position beyond the direction is covered, and the score is within what a step can add for each covered word
-pub record Ready (direction : List ℕ) (s : State) : Type 0 where
+pub record Bounded (direction : List ℕ) (s : State) : Type 0 where
   pub small : s .covered < 2 ^ wordCount direction
   pub score-within : Within (gainBound * wordsCovered (keyOf (wordCount direction) s)) (s .score)
 
@@ -38,7 +38,7 @@ pub record Follows (book : Book) (direction : List ℕ) (s : State) (step : Step
   pub may : mayExtend book direction (keyOf (wordCount direction) s) step ≡ true
   pub key-is : keyOf (wordCount direction) t ≡ nextKey book (keyOf (wordCount direction) s) step
   pub score-is : t .score ≡ s .score +ℤ gain book (keyOf (wordCount direction) s) step
-  pub ready : Ready direction t
+  pub ready : Bounded direction t
 
 -- the next state, or the question that refuses whatever is asked after the step
 abbrev pub AskedOf : Book → List ℕ → State → Step → Asked → Type 0

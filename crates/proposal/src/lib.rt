@@ -1,21 +1,21 @@
 // A proposed list of steps on plain numbers, (first, last, entry) for each: questions 16 to 19, and the score.
-use derivation::Task;
+use derivation::Setup;
 use derivation::places;
 use derivation::step;
-use notes::Refusal;
-use notes::Scored;
-use notes::State;
+use meaning::Refusal;
+use meaning::Scored;
+use meaning::State;
 ghost use mathlib.Core.Path.{_≡_};
 ghost use Prim.Native.Nat.{_+_, _*_, _≤_, _<_};
 ghost use lib.ListN.{length};
-ghost use Rattle.notes.specs.Book.{bookOf};
-ghost use Rattle.notes.specs.Direction.{wordCount};
-ghost use Rattle.notes.specs.Derivation.{fits, scoreOf};
-ghost use Rattle.notes.specs.State.{start};
-ghost use Rattle.notes.specs.Reply.{reply, scoredReply, stepsRefusal};
+ghost use Rattle.meaning.specs.Book.{bookOf};
+ghost use Rattle.meaning.specs.Direction.{wordCount};
+ghost use Rattle.meaning.specs.Derivation.{fits, scoreOf};
+ghost use Rattle.meaning.specs.State.{start};
+ghost use Rattle.meaning.specs.Reply.{reply, scoredReply, stepsRefusal};
 ghost use Rattle.book.specs.Entries.{EntriesAt};
 ghost use Rattle.derivation.specs.Prepared.{Prepared};
-ghost use Rattle.proposal.specs.Proposal.{stepOf, stepsIn, Ready, AskedOf};
+ghost use Rattle.proposal.specs.Proposal.{stepOf, stepsIn, Bounded, AskedOf};
 
 // What is asked of a proposed step: the state that it leads to, or the question that refuses it.
 pub enum Asked {
@@ -27,7 +27,7 @@ pub enum Asked {
 fn is_fitting(
     book: &[i32],
     index: &[i32],
-    t: Task,
+    t: Setup,
     direction: &[u16],
     first: usize,
     last: usize,
@@ -50,7 +50,7 @@ fn is_fitting(
 pub fn ask_step(
     book: &[i32],
     index: &[i32],
-    t: Task,
+    t: Setup,
     direction: &[u16],
     s: State,
     first: u16,
@@ -58,7 +58,7 @@ pub fn ask_step(
     entry: u16,
 ) -> Asked
     requires { ⌜ Prepared (now book) (now direction) (now index) t ⌝ }
-    requires { ⌜ Ready (now direction) s ⌝ }
+    requires { ⌜ Bounded (now direction) s ⌝ }
     ensures { λ r. ⌜ AskedOf (bookOf (now (book .entry))) (now (direction .entry)) s (stepOf first last entry) r ⌝ }
 {
     let first = first as usize;
@@ -67,8 +67,8 @@ pub fn ask_step(
     if !is_fitting(book, index, t, direction, first, last, entry) {
         return Asked::Refused(Refusal::DoesNotFit);
     }
-    let runs = coverage::free_runs(s.covered, t.n);
-    if !coverage::is_free(runs, first, last) {
+    let runs = positions::free_runs(s.covered, t.n);
+    if !positions::is_free(runs, first, last) {
         return Asked::Refused(Refusal::CoveredTwice);
     }
     if t.limit < step::jump(s.r as usize, first) {
@@ -82,7 +82,7 @@ pub fn ask_step(
 pub fn score_steps(
     book: &[i32],
     index: &[i32],
-    t: Task,
+    t: Setup,
     direction: &[u16],
     steps: &[u16],
     count: usize,
@@ -103,7 +103,7 @@ pub fn score_steps(
         }
         i += 1;
     }
-    if s.covered != coverage::covered_with(0, 1, t.n) {
+    if s.covered != positions::covered_with(0, 1, t.n) {
         return Scored::Refused(Refusal::Uncovered);
     }
     Scored::Score(s.score)

@@ -8,15 +8,15 @@ use mathlib.Core.List.{List}
 use lib.Dec.{leb}
 use lib.IntN.{ℤ}
 use lib.ListN.{length}
-use Rattle.notes.specs.Questions.{_unless_, number}
-use Rattle.notes.specs.Book.{InText, isBookText, textLines, linesRefusal, loadedOf, readRefusal}
-use Rattle.notes.specs.Reply.{refused, done, reply, readReply, writtenOver, writtenIf, readBook, readBookList}
-use Rattle.notes.specs.declared.Refusal.{Refusal}
-use Rattle.notes.specs.declared.Read.{Read}
-use Rattle.notes.specs.declared.Read.the-variants.{Refused}
-use Rattle.notes.proofs.Chains.{first-passes, rest-passes, test-passes, refused-is}
+use Rattle.meaning.specs.Questions.{_unless_, number}
+use Rattle.meaning.specs.Book.{InText, isBookText, textLines, linesRefusal, loadedOf, readRefusal}
+use Rattle.meaning.specs.Reply.{refused, done, reply, readReply, writtenOver, writtenIf, readBook, readBookList}
+use Rattle.meaning.specs.declared.Refusal.{Refusal}
+use Rattle.meaning.specs.declared.Read.{Read}
+use Rattle.meaning.specs.declared.Read.the-variants.{Refused}
+use Rattle.meaning.proofs.Chains.{first-passes, rest-passes, test-passes, refused-is}
 use Rattle.reading.specs.Text.{textRefusal}
-use Rattle.notes.proofs.Numbered.{number-from, refused-before-all, refused-reply}
+use Rattle.meaning.proofs.Numbered.{number-from, refused-before-all, refused-reply}
 
 module _ (t : List ℕ) (places : ℕ) where
   -- questions 1 to 6 refuse

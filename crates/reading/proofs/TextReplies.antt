@@ -5,13 +5,13 @@ use mathlib.Core.Bool.{true}
 use mathlib.Core.List.{List}
 use lib.IntN.{ℤ}
 use lib.ListN.{length}
-use Rattle.notes.specs.Book.{InText, Book, isBookText, textLines, loadedOf, linesRefusal}
-use Rattle.notes.specs.Reply.{reply, readReply}
-use Rattle.notes.proofs.Chains.{reply-done}
+use Rattle.meaning.specs.Book.{InText, Book, isBookText, textLines, loadedOf, linesRefusal}
+use Rattle.meaning.specs.Reply.{reply, readReply}
+use Rattle.meaning.proofs.Chains.{reply-done}
 use Rattle.loading.specs.Loaded.{Answered}
 use Rattle.loading.specs.declared.load.Loaded.{Loaded}
 use Rattle.loading.specs.declared.load.Loaded.the-variants.{Book as Passes, Refused}
-use Rattle.notes.proofs.Numbered.{refused-reply}
+use Rattle.meaning.proofs.Numbered.{refused-reply}
 use Rattle.reading.specs.Text.{textRefusal, countedAs}
 
 -- the reply of a text, with the count of its numbers

@@ -10,14 +10,14 @@ use lib.IntN.{ℤ}
 use lib.ListN.{length, drop, length-append, drop-of-length-le}
 use Rattle.laws.specs.Lists.{all}
 use Rattle.laws.proofs.Tests.{clash}
-use Rattle.notes.specs.Book.{InText, isWhole, isBookText, textLines, loadedOf}
+use Rattle.meaning.specs.Book.{InText, isWhole, isBookText, textLines, loadedOf}
 use Rattle.fields.specs.Scan.{Line, run, atLine, emitLine}
 use Rattle.text.specs.Walk.{RowRead}
 use Rattle.text.specs.declared.TextLine.{TextLine}
 use Rattle.fields.proofs.Form.{book-text, book-run}
 use Rattle.text.proofs.Lines.{At, at-start, at-end, loaded-end}
 use Rattle.text.proofs.InRow.{NextRow, next-row, emit-few}
-use Rattle.notes.proofs.Sizes.{four-numbers}
+use Rattle.meaning.proofs.Sizes.{four-numbers}
 use Rattle.book.specs.declared.survey.Survey.{Survey}
 use Rattle.book.specs.Survey.{fresh, withLine, surveyFrom, Few}
 use Rattle.book.specs.Grams.{withGram, gramsFrom}

@@ -6,10 +6,10 @@ use mathlib.Core.List.{List}
 use lib.IntN.{ℤ}
 use lib.ListN.{length}
 use Rattle.laws.specs.Lists.{all}
-use Rattle.notes.specs.Questions.{_unless_, _orelse_}
-use Rattle.notes.specs.Book.{InText, isBookText, isWhole, textLines, loadedOf, linesRefusal}
-use Rattle.notes.specs.declared.Read.{Read}
-use Rattle.notes.specs.declared.Read.the-variants.{Numbers, Refused as ReadRefused}
+use Rattle.meaning.specs.Questions.{_unless_, _orelse_}
+use Rattle.meaning.specs.Book.{InText, isBookText, isWhole, textLines, loadedOf, linesRefusal}
+use Rattle.meaning.specs.declared.Read.{Read}
+use Rattle.meaning.specs.declared.Read.the-variants.{Numbers, Refused as ReadRefused}
 use Rattle.book.specs.declared.survey.Survey.{Survey}
 use Rattle.loading.specs.declared.load.Loaded.{Loaded}
 use Rattle.loading.specs.declared.load.Loaded.the-variants.{Book as Passes, Refused}

@@ -11,8 +11,8 @@ use lib.ListN.{length, getD, set, take, drop, length-set, length-append, length-
 use lib.Seq.{getD-set-same, getD-set-other, take-all, take-length, take-suc, take-append-le, length-take-le, getD-at, set-at, append-snoc, drop-cons}
 use borrow.Author.Tests.{leb-true, leb-false, le-leb, lt-leb}
 use Rattle.laws.proofs.Tests.{by-test}
-use Rattle.notes.specs.declared.Step.{Step}
-use Rattle.notes.specs.Reply.{writtenOver}
+use Rattle.meaning.specs.declared.Step.{Step}
+use Rattle.meaning.specs.Reply.{writtenOver}
 use Rattle.records.specs.declared.Plain.{Plain}
 use Rattle.records.specs.Plain.{stepIn, stepsTo, stepsOf, withNumbers, unlessFull, withStep, Added, Gathered}
 

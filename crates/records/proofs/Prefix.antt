@@ -22,9 +22,9 @@ use denote.Index.{whole-in}
 use denote.Steps.{owned}
 use denote.Struct.Laws as LL
 use borrow.Table.Elements.{at as atE, cut-app, length-take-le}
-use Rattle.notes.specs.declared.Step.{Step}
-use Rattle.notes.proofs.Step as T
-use Rattle.notes.proofs.Step.Laws as T′
+use Rattle.meaning.specs.declared.Step.{Step}
+use Rattle.meaning.proofs.Step as T
+use Rattle.meaning.proofs.Step.Laws as T′
 
 -- the machine value of an array of records
 abbrev pub valOf : List Step → Val

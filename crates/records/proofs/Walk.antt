@@ -4,7 +4,7 @@ use native.Mathlib.Omega.{arith}
 use mathlib.Core.List.{List, [], _∷_}
 use mir.Syntax.{Ty, Local, local, Body, skip, seq, assign, block, loop, cond, switch, exit, return, call, tyUnit}
 use denote.Slice.{Room}
-use Rattle.notes.proofs.Step as T
+use Rattle.meaning.proofs.Step as T
 
 -- the byte offset of a record fits a usize: the list's bytes have room
 pub fits-mul : (n i : ℕ) → Room T.the-row n → i < n → i * 6 < 2 ^ 64

@@ -5,7 +5,7 @@ use mathlib.Core.Bool.{Bool, true, false}
 use mathlib.Core.List.{List, [], _∷_, _++_}
 use lib.Dec.{leb}
 use lib.ListN.{getD, set, take, replicate}
-use Rattle.notes.specs.declared.Step.{Step}
+use Rattle.meaning.specs.declared.Step.{Step}
 use Rattle.records.specs.declared.Plain.{Plain}
 
 -- step i, counted from 0: numbers 3i, 3i + 1 and 3i + 2

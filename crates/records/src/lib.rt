@@ -3,9 +3,9 @@
 ghost use mathlib.Core.Path.{_≡_};
 ghost use Prim.Native.Nat.{_<_, _≤_, min};
 ghost use lib.ListN.{length};
-ghost use Rattle.notes.specs.Reply.{writtenOver};
+ghost use Rattle.meaning.specs.Reply.{writtenOver};
 ghost use Rattle.records.specs.Plain.{noSteps, stepIn, stepsOf, Added, Gathered};
-use notes::Step;
+use meaning::Step;
 
 // Up to 33 steps as plain numbers, three to a step: first, last, entry.
 pub struct Plain {

@@ -7,20 +7,20 @@ use mathlib.Core.List.{List}
 use lib.IntN.{ℤ, negsuc}
 use lib.ListN.{length, take, drop, length-append}
 use lib.Seq.{take-at}
-use Rattle.notes.specs.Book.{Book, bookOf}
-use Rattle.notes.specs.Derivation.{IsDerivation}
-use Rattle.notes.specs.Reply.{Reply, Outcome, outcomeOf, decode, decodedReply, writtenOver, Written, ListsAfter}
-use Rattle.notes.specs.Render.{PrintsReply}
-use Rattle.notes.specs.declared.Answer.{Answer}
-use Rattle.notes.specs.declared.Decoded.{Decoded}
-use Rattle.notes.specs.declared.Decoded.the-variants.{Done, Refused}
-use Rattle.notes.specs.declared.Step.{Step}
-use Rattle.notes.proofs.Demands.{answered, decode-bound}
+use Rattle.meaning.specs.Book.{Book, bookOf}
+use Rattle.meaning.specs.Derivation.{IsDerivation}
+use Rattle.meaning.specs.Reply.{Reply, Outcome, outcomeOf, decode, decodedReply, writtenOver, Written, ListsAfter}
+use Rattle.meaning.specs.Render.{PrintsReply}
+use Rattle.meaning.specs.declared.Answer.{Answer}
+use Rattle.meaning.specs.declared.Decoded.{Decoded}
+use Rattle.meaning.specs.declared.Decoded.the-variants.{Done, Refused}
+use Rattle.meaning.specs.declared.Step.{Step}
+use Rattle.meaning.proofs.Demands.{answered, decode-bound}
 use Rattle.records.specs.declared.Plain.{Plain}
 use Rattle.records.specs.Plain.{stepsTo, stepsOf}
 use Rattle.records.proofs.Laws.{count-steps, first-steps, same-steps, over-same}
-use Rattle.answer.specs.declared.Core.{Core}
-use Rattle.decoder.specs.Core.{CoreDecodes}
+use Rattle.answer.specs.declared.PlainReply.{PlainReply}
+use Rattle.decoder.specs.Decodes.{PlainDecodes}
 use Rattle.printing.specs.Lines.{plainOf}
 use Rattle.rendering.specs.Parts.{FitsDecoded, printedDone, printedDecoded, decodeOff}
 
@@ -79,8 +79,8 @@ module _ (loaded : List ℤ) (direction : List ℕ) (p : Plain) (few : p .count 
   prints (Refused refusal) e w = subst (λ (r : Reply Outcome). PrintsReply book direction r (printedDecoded (Refused refusal) (p .numbers) words₁)) e refl
 
 -- a step list of 32 records, 256 words and 4,096 numbers of store
-module _ (loaded : List ℤ) (direction : List ℕ) (words₀ words₁ : List ℕ) (store₀ store₁ : List ℤ) (r : Core)
-    (D : CoreDecodes loaded direction (negsuc 0) 32 words₀ words₁ store₀ store₁ r) (w₀ : length words₀ ≡ 256) (w₁ : length words₁ ≡ 256) (s₀ : length store₀ ≡ 4_096) where
+module _ (loaded : List ℤ) (direction : List ℕ) (words₀ words₁ : List ℕ) (store₀ store₁ : List ℤ) (r : PlainReply)
+    (D : PlainDecodes loaded direction (negsuc 0) 32 words₀ words₁ store₀ store₁ r) (w₀ : length words₀ ≡ 256) (w₁ : length words₁ ≡ 256) (s₀ : length store₀ ≡ 4_096) where
   replied : decodedReply (r .reply) ≡ decodeOff loaded direction
   unfolding decodeOff
   replied = D .decodes (stepsTo (r .plain) 32) (count-steps (r .plain) 32) .reply-is ∙ same (count-steps (r .plain) 32) w₀ s₀
@@ -89,8 +89,8 @@ module _ (loaded : List ℤ) (direction : List ℕ) (words₀ words₁ : List �
           → decode loaded direction (negsuc 0) (record { steps = s; words = w; store = t }) ≡ decode loaded direction (negsuc 0) (record { steps = 32; words = 256; store = 4_096 })
       same e f g i = decode loaded direction (negsuc 0) (record { steps = e i; words = f i; store = g i })
 
-  pub core-fits : FitsDecoded (r .reply)
-  core-fits = fits loaded direction (r .plain) (D .has-room) words₀ words₁ w₁ (r .reply) replied (D .decodes (stepsTo (r .plain) 32) (count-steps (r .plain) 32) .lists-are)
+  pub reply-fits : FitsDecoded (r .reply)
+  reply-fits = fits loaded direction (r .plain) (D .has-room) words₀ words₁ w₁ (r .reply) replied (D .decodes (stepsTo (r .plain) 32) (count-steps (r .plain) 32) .lists-are)
 
-  pub core-prints : PrintsReply (bookOf loaded) direction (decodeOff loaded direction) (printedDecoded (r .reply) (r .plain .numbers) words₁)
-  core-prints = prints loaded direction (r .plain) (D .has-room) words₀ words₁ w₁ (r .reply) replied (D .decodes (stepsTo (r .plain) 32) (count-steps (r .plain) 32) .lists-are)
+  pub reply-prints : PrintsReply (bookOf loaded) direction (decodeOff loaded direction) (printedDecoded (r .reply) (r .plain .numbers) words₁)
+  reply-prints = prints loaded direction (r .plain) (D .has-room) words₀ words₁ w₁ (r .reply) replied (D .decodes (stepsTo (r .plain) 32) (count-steps (r .plain) 32) .lists-are)

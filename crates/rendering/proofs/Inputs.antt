@@ -12,19 +12,19 @@ use lib.ListN.{length, take, drop, length-append, length-map}
 use lib.Seq.{take-at}
 use Rattle.laws.specs.Integers.{natOf}
 use Rattle.laws.proofs.Tests.{both}
-use Rattle.notes.specs.Questions.{_unless_, _orelse_, number}
-use Rattle.notes.specs.Book.{bookOf, loadedOf, readRefusal}
-use Rattle.notes.specs.Direction.{wordCount, directionNumbers, directionOf, readDirectionRefusal}
-use Rattle.notes.specs.Reply.{Reply, done, reply, Outcome, decode, writtenIf, readReply, readBook, readBookList, readDirection, readDirectionList}
-use Rattle.notes.specs.Render.{printedRefusal, PrintsReply, PrintsAfter, inputRefusal, renderDecode, Renders}
-use Rattle.notes.specs.declared.Read.{Read}
-use Rattle.notes.specs.declared.Read.the-variants.{Numbers, Refused}
-use Rattle.notes.specs.declared.Refusal.{Refusal}
-use Rattle.notes.proofs.Chains.{done-passes, done-is, refused-is}
-use Rattle.notes.proofs.Demands.{numbers-to, direction-to}
-use Rattle.notes.proofs.Rooms.{read-room, direction-room, decode-room}
+use Rattle.meaning.specs.Questions.{_unless_, _orelse_, number}
+use Rattle.meaning.specs.Book.{bookOf, loadedOf, readRefusal}
+use Rattle.meaning.specs.Direction.{wordCount, directionNumbers, directionOf, readDirectionRefusal}
+use Rattle.meaning.specs.Reply.{Reply, done, reply, Outcome, decode, writtenIf, readReply, readBook, readBookList, readDirection, readDirectionList}
+use Rattle.meaning.specs.Render.{printedRefusal, PrintsReply, PrintsAfter, inputRefusal, renderDecode, Renders}
+use Rattle.meaning.specs.declared.Read.{Read}
+use Rattle.meaning.specs.declared.Read.the-variants.{Numbers, Refused}
+use Rattle.meaning.specs.declared.Refusal.{Refusal}
+use Rattle.meaning.proofs.Chains.{done-passes, done-is, refused-is}
+use Rattle.meaning.proofs.Demands.{numbers-to, direction-to}
+use Rattle.meaning.proofs.Rooms.{read-room, direction-room, decode-room}
 use Rattle.text.proofs.Numbers.{numbers-few}
-use Rattle.notes.proofs.Numbered.{number-from}
+use Rattle.meaning.proofs.Numbered.{number-from}
 use Rattle.rendering.specs.Parts.{decodeOff, PrintsRead}
 
 -- ════ a text that was read into a list

@@ -7,9 +7,9 @@ use lib.ListN.{length, getD, take, length-take}
 use lib.Seq.{getD-take}
 use Rattle.laws.proofs.Bounds.{within-mono}
 use Rattle.laws.proofs.Lists.{mem-getD}
-use Rattle.notes.specs.Bounds.{wordSpan}
-use Rattle.notes.specs.Reply.{outcomeOf, countsOf}
-use Rattle.notes.specs.declared.Answer.{Answer}
+use Rattle.meaning.specs.Bounds.{wordSpan}
+use Rattle.meaning.specs.Reply.{outcomeOf, countsOf}
+use Rattle.meaning.specs.declared.Answer.{Answer}
 use Rattle.records.proofs.Laws.{count-steps}
 use Rattle.records.specs.Plain.{stepsOf}
 use Rattle.printing.specs.Lines.{Printable, plainOf}

@@ -5,15 +5,15 @@ use mathlib.Core.List.{List}
 use lib.IntN.{ℤ, negsuc}
 use lib.ListN.{length, take, drop}
 use Rattle.laws.specs.Integers.{Within}
-use Rattle.notes.specs.Questions.{number}
-use Rattle.notes.specs.Book.{bookOf}
-use Rattle.notes.specs.Direction.{directionOf}
-use Rattle.notes.specs.State.{scoreBound}
-use Rattle.notes.specs.Reply.{Reply, Outcome, outcomeOf, decode}
-use Rattle.notes.specs.Render.{printedRefusal, printedAnswer, PrintsReply}
-use Rattle.notes.specs.declared.Answer.{Answer}
-use Rattle.notes.specs.declared.Decoded.{Decoded}
-use Rattle.notes.specs.declared.Decoded.the-variants.{Done, Refused}
+use Rattle.meaning.specs.Questions.{number}
+use Rattle.meaning.specs.Book.{bookOf}
+use Rattle.meaning.specs.Direction.{directionOf}
+use Rattle.meaning.specs.State.{scoreBound}
+use Rattle.meaning.specs.Reply.{Reply, Outcome, outcomeOf, decode}
+use Rattle.meaning.specs.Render.{printedRefusal, printedAnswer, PrintsReply}
+use Rattle.meaning.specs.declared.Answer.{Answer}
+use Rattle.meaning.specs.declared.Decoded.{Decoded}
+use Rattle.meaning.specs.declared.Decoded.the-variants.{Done, Refused}
 use Rattle.records.specs.Plain.{stepsOf}
 use Rattle.printing.specs.Lines.{plainOf}
 

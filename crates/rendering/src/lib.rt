@@ -4,15 +4,15 @@ ghost use mathlib.Core.Bool.{_&&_};
 ghost use Prim.Native.Nat.{_≤_};
 ghost use lib.Dec.{leb};
 ghost use lib.ListN.{length};
-ghost use Rattle.notes.specs.Book.{bookOf};
-ghost use Rattle.notes.specs.Direction.{readDirectionRefusal};
-ghost use Rattle.notes.specs.Render.{PrintsReply, Renders};
+ghost use Rattle.meaning.specs.Book.{bookOf};
+ghost use Rattle.meaning.specs.Direction.{readDirectionRefusal};
+ghost use Rattle.meaning.specs.Render.{PrintsReply, Renders};
 ghost use Rattle.decimals.specs.Put.{Put};
 ghost use Rattle.rendering.specs.Parts.{Begins, Fits, FitsDecoded, printedDone, printedDecoded, decodeOff, PrintsRead};
-use notes::Answer;
-use notes::Decoded;
-use notes::Read;
-use notes::Refusal;
+use meaning::Answer;
+use meaning::Decoded;
+use meaning::Read;
+use meaning::Refusal;
 
 // Whether neither input has more bytes than the program takes.
 fn are_short(book: &[u8], direction: &[u8]) -> bool
@@ -54,9 +54,9 @@ fn put_decode(out: &mut [u8], book: &[i32], direction: &[u16]) -> usize
 {
     let mut words = [0u16; 256];
     let mut store = [0i64; 4096];
-    let core = plain::decode_plain(book, direction, -1, 32, &mut words, &mut store);
-    let numbers = core.plain.numbers;
-    let decoded = core.reply;
+    let told = plain::decode_plain(book, direction, -1, 32, &mut words, &mut store);
+    let numbers = told.plain.numbers;
+    let decoded = told.reply;
     put_decoded(out, decoded, &numbers, &words)
 }
 

@@ -6,15 +6,15 @@ use mathlib.Core.List.{List, [], _∷_, _++_, map, map-append}
 use lib.IntN.{ℤ}
 use Rattle.laws.specs.Lists.{numbersFrom}
 use Rattle.laws.proofs.Lists.{numbers-next}
-use Rattle.notes.specs.Questions.{_orelse_, number}
-use Rattle.notes.specs.Book.{bookRefusal, bookOf}
-use Rattle.notes.specs.Direction.{wordCount, directionRefusal}
-use Rattle.notes.specs.Derivation.{scoreOf}
-use Rattle.notes.specs.State.{start}
-use Rattle.notes.specs.Reply.{Reply, refused, reply, stepsRefusal, proposalRefusal, scoreProposal}
-use Rattle.notes.specs.declared.Step.{Step}
-use Rattle.notes.specs.declared.Refusal.{Refusal}
-use Rattle.notes.proofs.Numbered.{refused-before-all, refused-reply}
+use Rattle.meaning.specs.Questions.{_orelse_, number}
+use Rattle.meaning.specs.Book.{bookRefusal, bookOf}
+use Rattle.meaning.specs.Direction.{wordCount, directionRefusal}
+use Rattle.meaning.specs.Derivation.{scoreOf}
+use Rattle.meaning.specs.State.{start}
+use Rattle.meaning.specs.Reply.{Reply, refused, reply, stepsRefusal, proposalRefusal, scoreProposal}
+use Rattle.meaning.specs.declared.Step.{Step}
+use Rattle.meaning.specs.declared.Refusal.{Refusal}
+use Rattle.meaning.proofs.Numbered.{refused-before-all, refused-reply}
 use Rattle.proposal.specs.Proposal.{stepIn, stepsIn}
 use Rattle.records.specs.declared.Plain.{Plain}
 use Rattle.records.specs.Plain.{stepIn as recordIn, stepsTo, stepsOf}

@@ -1,11 +1,11 @@
 // Scoring a proposed list on plain numbers, with what the book and the direction say in local arrays: about 200,000 bytes of stack.
 use book::entries::INDEX_SIZE;
-use notes::Scored;
+use meaning::Scored;
 use opening::Start;
 use records::Plain;
 ghost use mathlib.Core.Path.{_≡_};
 ghost use Prim.Native.Nat.{_≤_};
-ghost use Rattle.notes.specs.Reply.{scoredReply, scoreProposal};
+ghost use Rattle.meaning.specs.Reply.{scoredReply, scoreProposal};
 ghost use Rattle.records.specs.Plain.{stepsOf};
 
 // "Scoring a proposed list", of at most 33 steps as plain numbers: 2 to 6, 9, 10 and 16 to 19, and the score where none refuses.

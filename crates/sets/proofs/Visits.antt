@@ -7,10 +7,10 @@ use mathlib.Core.List.{List}
 use lib.IntN.{ℤ}
 use lib.ListN.{length}
 use Rattle.search_theory.specs.Search.{upto, first}
-use Rattle.notes.specs.Book.{Book}
-use Rattle.notes.specs.Direction.{wordCount}
-use Rattle.notes.specs.State.{IsStart}
-use Rattle.notes.specs.Search.{search}
+use Rattle.meaning.specs.Book.{Book}
+use Rattle.meaning.specs.Direction.{wordCount}
+use Rattle.meaning.specs.State.{IsStart}
+use Rattle.meaning.specs.Search.{search}
 use Rattle.states.specs.Ghost.{inWidth, topOf, Chosen, Growing, Levelling, Starting}
 use Rattle.states.specs.Shows.{Shows}
 use Rattle.store.specs.Store.{placeAt, Put, Indexed}

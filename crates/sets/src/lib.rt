@@ -1,7 +1,7 @@
 // The sets of states, one after the other: those that cover no word, one word, and so on, and each state within the width is extended.
-use extending::Job;
+use extending::Beam;
 use extending::Source;
-use notes::State;
+use meaning::State;
 use states::Grown;
 use store::Place;
 ghost use mathlib.Core.Path.{_≡_};
@@ -9,9 +9,9 @@ ghost use Prim.Native.Nat.{_+_, _<_};
 ghost use lib.IntN.{pos};
 ghost use lib.ListN.{length, replicate};
 ghost use Rattle.search_theory.specs.Search.{upto};
-ghost use Rattle.notes.specs.Book.{bookOf};
-ghost use Rattle.notes.specs.Direction.{wordCount};
-ghost use Rattle.notes.specs.Search.{search};
+ghost use Rattle.meaning.specs.Book.{bookOf};
+ghost use Rattle.meaning.specs.Direction.{wordCount};
+ghost use Rattle.meaning.specs.Search.{search};
 ghost use Rattle.states.specs.Ghost.{Levelling, Levelled, Starting, Reached, topOf};
 ghost use Rattle.extending.specs.Extend.{Searchable};
 
@@ -30,27 +30,27 @@ fn visit(
     direction: &[u16],
     index: &[i32],
     options: &[u16],
-    job: Job,
+    beam: Beam,
     candidate: Candidate,
 ) -> Grown
-    requires { ⌜ Searchable (now book) (now direction) (now index) (now options) (job .task) ⌝ }
-    requires { ⌜ (candidate .set < job .task .n) × (candidate .at < length (upto (search (bookOf (now book)) (now direction) (job .width)) (candidate .set))) ⌝ }
-    requires { ⌜ candidate .top ≡ topOf (bookOf (now book)) (now direction) (job .width) (candidate .set) ⌝ }
-    requires { ⌜ Levelling (bookOf (now book)) (now direction) (job .width) (candidate .set) (candidate .at) (now store) count ⌝ }
-    ensures { λ r. ⌜ Levelled (bookOf (now (book .entry))) (now (direction .entry)) (job .width) (candidate .set) (candidate .at + 1) (now (store .exit)) r ⌝ }
+    requires { ⌜ Searchable (now book) (now direction) (now index) (now options) (beam .setup) ⌝ }
+    requires { ⌜ (candidate .set < beam .setup .n) × (candidate .at < length (upto (search (bookOf (now book)) (now direction) (beam .width)) (candidate .set))) ⌝ }
+    requires { ⌜ candidate .top ≡ topOf (bookOf (now book)) (now direction) (beam .width) (candidate .set) ⌝ }
+    requires { ⌜ Levelling (bookOf (now book)) (now direction) (beam .width) (candidate .set) (candidate .at) (now store) count ⌝ }
+    ensures { λ r. ⌜ Levelled (bookOf (now (book .entry))) (now (direction .entry)) (beam .width) (candidate .set) (candidate .at + 1) (now (store .exit)) r ⌝ }
 {
     let x = store::places::place_at(store, candidate.at);
     if x.size != candidate.set {
         return Grown::On(count);
     }
-    if !states::reading::is_within(candidate.top, x.state, job.width) {
+    if !states::best::is_within(candidate.top, x.state, beam.width) {
         return Grown::On(count);
     }
     let source = Source {
         place: x,
         at: candidate.at,
     };
-    extending::extend_all(store, count, book, direction, index, options, job, source)
+    extending::extend_all(store, count, book, direction, index, options, beam, source)
 }
 
 // The set i is extended: the states that cover i words, in the order in which they were entered.
@@ -61,20 +61,20 @@ fn level(
     direction: &[u16],
     index: &[i32],
     options: &[u16],
-    job: Job,
+    beam: Beam,
     i: usize,
 ) -> Grown
-    requires { ⌜ Searchable (now book) (now direction) (now index) (now options) (job .task) ⌝ }
-    requires { ⌜ i < job .task .n ⌝ }
-    requires { ⌜ Starting (bookOf (now book)) (now direction) (job .width) i (now store) count ⌝ }
-    ensures { λ r. ⌜ Reached (bookOf (now (book .entry))) (now (direction .entry)) (job .width) (i + 1) (now (store .exit)) r ⌝ }
+    requires { ⌜ Searchable (now book) (now direction) (now index) (now options) (beam .setup) ⌝ }
+    requires { ⌜ i < beam .setup .n ⌝ }
+    requires { ⌜ Starting (bookOf (now book)) (now direction) (beam .width) i (now store) count ⌝ }
+    ensures { λ r. ⌜ Reached (bookOf (now (book .entry))) (now (direction .entry)) (beam .width) (i + 1) (now (store .exit)) r ⌝ }
 {
-    let top = states::reading::top_score(store, count, i);
+    let top = states::best::top_score(store, count, i);
     let mut c = count;
     let mut j = 0;
     while j < count {
         let candidate = Candidate { at: j, set: i, top };
-        let Grown::On(more) = visit(store, c, book, direction, index, options, job, candidate)
+        let Grown::On(more) = visit(store, c, book, direction, index, options, beam, candidate)
         else {
             return Grown::Overflow;
         };
@@ -91,11 +91,11 @@ pub fn search(
     direction: &[u16],
     index: &[i32],
     options: &[u16],
-    job: Job,
+    beam: Beam,
 ) -> Grown
-    requires { ⌜ Searchable (now book) (now direction) (now index) (now options) (job .task) ⌝ }
+    requires { ⌜ Searchable (now book) (now direction) (now index) (now options) (beam .setup) ⌝ }
     requires { ⌜ now store ≡ replicate (length (now store)) (pos 0) ⌝ }
-    ensures { λ r. ⌜ Reached (bookOf (now (book .entry))) (now (direction .entry)) (job .width) (wordCount (now (direction .entry))) (now (store .exit)) r ⌝ }
+    ensures { λ r. ⌜ Reached (bookOf (now (book .entry))) (now (direction .entry)) (beam .width) (wordCount (now (direction .entry))) (now (store .exit)) r ⌝ }
 {
     if store.len() < 8 {
         return Grown::Overflow;
@@ -112,8 +112,8 @@ pub fn search(
     );
     let mut c = 1;
     let mut i = 0;
-    while i < job.task.n {
-        let Grown::On(more) = level(store, c, book, direction, index, options, job, i) else {
+    while i < beam.setup.n {
+        let Grown::On(more) = level(store, c, book, direction, index, options, beam, i) else {
             return Grown::Overflow;
         };
         c = more;

@@ -19,9 +19,9 @@ use Rattle.laws.proofs.Tests.{bool-ind, by-test}
 use Rattle.search_theory.specs.Search.{wins}
 use Rattle.search_theory.specs.Loops.{pick, closing}
 use Rattle.search_theory.proofs.Array.{pick-at, pick-end}
-use Rattle.notes.specs.State.{Hyp, wordsCovered, isBetter}
-use Rattle.notes.specs.Search.{bestScore}
-use Rattle.notes.specs.declared.State.{State}
+use Rattle.meaning.specs.State.{Hyp, wordsCovered, isBetter}
+use Rattle.meaning.specs.Search.{bestScore}
+use Rattle.meaning.specs.declared.State.{State}
 use Rattle.store.specs.Store.{placeAt}
 use Rattle.states.specs.Order.{surpasses}
 use Rattle.states.specs.Shows.{nobody, Lists}

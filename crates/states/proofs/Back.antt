@@ -15,14 +15,14 @@ use Rattle.laws.proofs.Tests.{by-test}
 use Rattle.search_theory.specs.Search.{first, upto}
 use Rattle.search_theory.proofs.Sets.{longer}
 use Rattle.search_theory.proofs.Sound.{legal-first, upto-legal}
-use Rattle.notes.specs.Book.{Book}
-use Rattle.notes.specs.Direction.{wordCount}
-use Rattle.notes.specs.State.{Hyp, start, wordsCovered}
-use Rattle.notes.specs.Search.{fittingSteps, search}
-use Rattle.notes.specs.declared.Step.{Step}
-use Rattle.notes.proofs.Instance.{steady}
+use Rattle.meaning.specs.Book.{Book}
+use Rattle.meaning.specs.Direction.{wordCount}
+use Rattle.meaning.specs.State.{Hyp, start, wordsCovered}
+use Rattle.meaning.specs.Search.{fittingSteps, search}
+use Rattle.meaning.specs.declared.Step.{Step}
+use Rattle.meaning.proofs.Instance.{steady}
 use Rattle.store.specs.Store.{placeAt}
-use Rattle.notes.specs.Derivation.{noStep}
+use Rattle.meaning.specs.Derivation.{noStep}
 use Rattle.states.specs.Shows.{nobody}
 use Rattle.states.specs.Ghost.{optionAt, Starting}
 use Rattle.states.specs.Back.{Linked, Chains, Way, Behind}

@@ -28,16 +28,16 @@ use Rattle.search_theory.proofs.Longer.{upto-longer}
 use Rattle.search_theory.proofs.Loops.{best-pick}
 use Rattle.search_theory.proofs.Sound.{upto-legal}
 use Rattle.search_theory.proofs.Trace.{traced-begin, traced-on, traced-set, traced-append}
-use Rattle.notes.specs.Book.{Book}
-use Rattle.notes.specs.Direction.{wordCount}
-use Rattle.notes.specs.State.{Key, Hyp, wordsCovered, isEqual, mayExtend, nextKey, gain, isBetter, gainBound, scoreBound, start, keyOf, IsStart}
-use Rattle.notes.specs.Search.{fittingSteps, bestScore, isWithin, search}
-use Rattle.notes.proofs.Cover.{none-covered}
-use Rattle.notes.proofs.Instance.{legal-length, steady, score-within}
-use Rattle.notes.proofs.Ranges.{Ranged}
+use Rattle.meaning.specs.Book.{Book}
+use Rattle.meaning.specs.Direction.{wordCount}
+use Rattle.meaning.specs.State.{Key, Hyp, wordsCovered, isEqual, mayExtend, nextKey, gain, isBetter, gainBound, scoreBound, start, keyOf, IsStart}
+use Rattle.meaning.specs.Search.{fittingSteps, bestScore, isWithin, search}
+use Rattle.meaning.proofs.Cover.{none-covered}
+use Rattle.meaning.proofs.Instance.{legal-length, steady, score-within}
+use Rattle.meaning.proofs.Ranges.{Ranged}
 use Rattle.store.specs.Store.{placeAt, isSame, Unseen, Put, Indexed, Storable}
 use Rattle.states.specs.Adding.{Met, AddedOf, IndexedAfter}
-use Rattle.notes.specs.Derivation.{noStep}
+use Rattle.meaning.specs.Derivation.{noStep}
 use Rattle.states.specs.Shows.{nobody, Shows, Lists}
 use Rattle.states.specs.Ghost.{inWidth, optionAt, Held, Starting, Levelling, Growing, Chosen, topOf, After, Grew, Levelled, NextPlace}
 use Rattle.states.specs.Answer.{sized, noClose, picked}

@@ -12,8 +12,8 @@ use Rattle.laws.specs.Lists.{eqList}
 use Rattle.laws.proofs.Bits.{bits-length, bits-inj, bits-zero}
 use Rattle.laws.proofs.Lists.{eqList-is, eqList-refl, count-le}
 use Rattle.laws.proofs.Tests.{same-test}
-use Rattle.notes.specs.State.{Key, start, wordsCovered, eqBit, isEqual, keyOf, IsStart}
-use Rattle.notes.specs.declared.State.{State}
+use Rattle.meaning.specs.State.{Key, start, wordsCovered, eqBit, isEqual, keyOf, IsStart}
+use Rattle.meaning.specs.declared.State.{State}
 use Rattle.store.specs.Store.{isSame, Storable}
 use Rattle.states.specs.Shows.{Fine}
 use Rattle.store.specs.declared.Place.{Place}

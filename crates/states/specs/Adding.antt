@@ -5,7 +5,7 @@ use mathlib.Core.List.{List}
 use Prim.Native.Nat.{ℕ, _+_, _*_, _<_, _≤_}
 use lib.IntN.{ℤ}
 use lib.ListN.{length}
-use Rattle.notes.specs.declared.State.{State}
+use Rattle.meaning.specs.declared.State.{State}
 use Rattle.store.specs.Store.{placeAt, isSame, Unseen, Put, Indexed}
 use Rattle.store.specs.declared.Place.{Place}
 use Rattle.states.specs.Order.{surpasses}

@@ -7,8 +7,8 @@ use lib.Dec.{eqb}
 use lib.IntN.{ℤ, pos, _+ℤ_}
 use lib.ListN.{getD}
 use Rattle.laws.specs.Lists.{keep, larger}
-use Rattle.notes.specs.State.{Key, Hyp, wordsCovered, keyOf}
-use Rattle.notes.specs.declared.State.{State}
+use Rattle.meaning.specs.State.{Key, Hyp, wordsCovered, keyOf}
+use Rattle.meaning.specs.declared.State.{State}
 use Rattle.store.specs.Store.{placeAt}
 use Rattle.states.specs.Order.{surpasses}
 use Rattle.states.specs.Shows.{nobody}

@@ -4,10 +4,10 @@ use mathlib.Core.List.{List, [], _∷_, _++_}
 use Prim.Native.Nat.{ℕ, _*_, _<_, _≤_}
 use lib.IntN.{ℤ}
 use lib.ListN.{length, getD}
-use Rattle.notes.specs.State.{Hyp}
-use Rattle.notes.specs.declared.Step.{Step}
+use Rattle.meaning.specs.State.{Hyp}
+use Rattle.meaning.specs.declared.Step.{Step}
 use Rattle.store.specs.Store.{placeAt}
-use Rattle.notes.specs.Derivation.{noStep}
+use Rattle.meaning.specs.Derivation.{noStep}
 use Rattle.states.specs.Shows.{nobody}
 
 -- the state at the place j is its parent's with one step more

@@ -10,13 +10,13 @@ use lib.Signed.{leZ}
 use lib.ListN.{length, getD}
 use Rattle.search_theory.specs.Search.{Problem, setOf, upto, run}
 use Rattle.search_theory.specs.Statements.{InLevel, InGrow, Traced}
-use Rattle.notes.specs.Book.{Book}
-use Rattle.notes.specs.Direction.{wordCount}
-use Rattle.notes.specs.State.{Hyp, wordsCovered, nextKey, gain, keyOf}
-use Rattle.notes.specs.Search.{fittingSteps, isOff, bestScore, search}
-use Rattle.notes.specs.declared.Step.{Step}
+use Rattle.meaning.specs.Book.{Book}
+use Rattle.meaning.specs.Direction.{wordCount}
+use Rattle.meaning.specs.State.{Hyp, wordsCovered, nextKey, gain, keyOf}
+use Rattle.meaning.specs.Search.{fittingSteps, isOff, bestScore, search}
+use Rattle.meaning.specs.declared.Step.{Step}
 use Rattle.store.specs.Store.{placeAt, Indexed}
-use Rattle.notes.specs.Derivation.{noStep}
+use Rattle.meaning.specs.Derivation.{noStep}
 use Rattle.states.specs.Shows.{nobody, Fine, Shows}
 use Rattle.store.specs.declared.Place.{Place}
 use Rattle.states.specs.declared.Added.{Added}

@@ -5,8 +5,8 @@ use mathlib.Core.List.{List, []}
 use Prim.Native.Nat.{ℕ, _<_, _≤_, _^_}
 use lib.IntN.{ℤ, pos}
 use lib.ListN.{length, getD}
-use Rattle.notes.specs.State.{Hyp, wordsCovered, keyOf}
-use Rattle.notes.specs.declared.State.{State}
+use Rattle.meaning.specs.State.{Hyp, wordsCovered, keyOf}
+use Rattle.meaning.specs.declared.State.{State}
 use Rattle.store.specs.Store.{placeAt}
 use Rattle.store.specs.declared.Place.{Place}
 

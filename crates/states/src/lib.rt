@@ -1,8 +1,8 @@
 // The states of the search in the store: what its loops keep, what they add to it and what they read off it.
 pub mod adding;
+pub mod best;
 pub mod order;
 pub mod paths;
-pub mod reading;
 
 // What was done with a state: it took the place of an equal one, or the equal one stayed, or it is a new one, or there was no place left.
 pub enum Added {

@@ -1,5 +1,5 @@
 // The order of the search: which of two states is the better.
-use notes::State;
+use meaning::State;
 ghost use mathlib.Core.Path.{_≡_};
 ghost use Rattle.states.specs.Order.{surpasses};
 

@@ -4,8 +4,8 @@ ghost use mathlib.Core.Path.{_≡_};
 ghost use mathlib.Core.List.{List};
 ghost use Prim.Native.Nat.{ℕ, _<_, _≤_};
 ghost use lib.ListN.{length, getD};
-ghost use Rattle.notes.specs.State.{Hyp};
-ghost use Rattle.notes.specs.declared.Step.{Step};
+ghost use Rattle.meaning.specs.State.{Hyp};
+ghost use Rattle.meaning.specs.declared.Step.{Step};
 ghost use Rattle.states.specs.Shows.{nobody};
 ghost use Rattle.states.specs.Back.{Chains, Leads, Way};
 

@@ -17,7 +17,7 @@ use Rattle.laws.specs.Integers.{natOf}
 use Rattle.laws.specs.Index.{Chained, inBucket, latest}
 use Rattle.laws.proofs.Index.{latest-none, latest-lt, latest-at, chained-none, chained-same, chained-more, walk-start, walk-step, walk-less, walk-out}
 use Rattle.laws.proofs.Tests.{both, by-test}
-use Rattle.notes.specs.declared.State.{State}
+use Rattle.meaning.specs.declared.State.{State}
 use Rattle.store.specs.Store.{placeAt, headAt, linkAt, wordsOf, bucketOf, Way, Unseen, Indexed, Spare, Relinked, Put, isSame, Zeroed, Clearing}
 use Rattle.store.specs.declared.Place.{Place}
 use Rattle.store.proofs.Writes.{places-same}

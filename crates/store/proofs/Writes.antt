@@ -13,7 +13,7 @@ use borrow.Author.Tests.{eq-eqb, ne-eqb}
 use Rattle.laws.specs.Integers.{natOf}
 use Rattle.laws.proofs.Fields.{setFrom, from-long, from-far, from-first, from-near}
 use Rattle.laws.proofs.Tests.{and-first, and-second}
-use Rattle.notes.specs.declared.State.{State}
+use Rattle.meaning.specs.declared.State.{State}
 use Rattle.store.specs.Store.{placeAt, headAt, linkAt, wordsOf, Storable, Put, Spare, Relinked, isSame, Zeroed}
 use Rattle.store.specs.declared.Place.{Place}
 

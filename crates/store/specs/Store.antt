@@ -10,7 +10,7 @@ use lib.IntN.{ℤ, pos}
 use lib.ListN.{length, getD}
 use Rattle.laws.specs.Integers.{natOf}
 use Rattle.laws.specs.Index.{Chained, Walk}
-use Rattle.notes.specs.declared.State.{State}
+use Rattle.meaning.specs.declared.State.{State}
 use Rattle.store.specs.declared.Place.{Place}
 use Rattle.store.specs.declared.Found.{Found}
 use Rattle.store.specs.declared.Found.the-variants.{At, Nothing}

@@ -3,7 +3,7 @@ use crate::Found;
 use crate::Place;
 use crate::numbers;
 use crate::places;
-use notes::State;
+use meaning::State;
 ghost use mathlib.Core.Path.{_≡_};
 ghost use Prim.Native.Nat.{_+_, _*_, _/_, _%_, _<_, _≤_, min};
 ghost use lib.ListN.{length};

@@ -2,7 +2,7 @@
 //   number 0: word1 * 65,536 + word2     1: covered     2: r * 64 + size     3: score     4: the parent's place
 //   5: the option's number     6: the head of the bucket with this place's number     7: the link of this place's state
 // A head or a link is 1 + a place, or 0 for none.
-use notes::State;
+use meaning::State;
 
 pub mod index;
 pub mod numbers;

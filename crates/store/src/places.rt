@@ -1,7 +1,7 @@
 // Places of the store: numbers 0 to 5 of each.
 use crate::Place;
 use crate::numbers;
-use notes::State;
+use meaning::State;
 ghost use mathlib.Core.Path.{_≡_};
 ghost use Prim.Native.Nat.{_+_, _*_, _<_, _≤_};
 ghost use lib.ListN.{length};

@@ -14,12 +14,12 @@ use Rattle.text.specs.Walk.{RowRead}
 use Rattle.fields.specs.Fields.{start, FieldRead}
 use Rattle.fields.specs.declared.Piece.{Piece}
 use Rattle.fields.proofs.Cut.{Sort, sort}
-use Rattle.notes.proofs.Filled.{filled-length}
+use Rattle.meaning.proofs.Filled.{filled-length}
 use Rattle.text.proofs.Row.{Writing, write-start, write-put, write-count, write-end}
 use Rattle.fields.proofs.Fields.{field-ends, walk-end}
 use Rattle.text.proofs.Numbers.{book-numbers}
 use Rattle.text.proofs.Lines.{At, next-line, loaded-next}
-use Rattle.notes.specs.Book.{textLines, loadedOf}
+use Rattle.meaning.specs.Book.{textLines, loadedOf}
 
 -- the line from `at` on was read up to `end`, where a field starts
 pub record InRow (t : List ℕ) (at : ℕ) (old row : List ℤ) (line : Bool) (count end : ℕ) : Type 0 where

@@ -10,8 +10,8 @@ use lib.ListN.{length, take, drop, length-drop, drop-of-length-le}
 use lib.Seq.{drop-drop}
 use Rattle.laws.specs.Lists.{isEmpty, concat}
 use Rattle.laws.proofs.Tests.{both, clash}
-use Rattle.notes.specs.Book.{isTextLine, lineNumbers, isBookText, textLines, loadedOf}
-use Rattle.notes.specs.Numerals.{linesOf, split}
+use Rattle.meaning.specs.Book.{isTextLine, lineNumbers, isBookText, textLines, loadedOf}
+use Rattle.meaning.specs.Numerals.{linesOf, split}
 use Rattle.fields.specs.Fields.{lineLength}
 use Rattle.fields.proofs.Cut.{line, cut, left, Sort, sort, isBlank, isRest, not-blank, lines-are, book-is, book-empty}
 

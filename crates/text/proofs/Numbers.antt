@@ -11,9 +11,9 @@ use lib.ListN.{length}
 use lib.IntN.{ℤ, pos, negℤ}
 use Rattle.laws.specs.Lists.{isEmpty, concat}
 use Rattle.laws.proofs.Tests.{both, clash}
-use Rattle.notes.specs.Numerals.{isDigit, digitsValue, valueOf}
-use Rattle.notes.specs.Book.{kindOfByte, lineNumbers, isBookText, textLines, loadedOf}
-use Rattle.notes.specs.Direction.{isDirectionText, directionNumbers}
+use Rattle.meaning.specs.Numerals.{isDigit, digitsValue, valueOf}
+use Rattle.meaning.specs.Book.{kindOfByte, lineNumbers, isBookText, textLines, loadedOf}
+use Rattle.meaning.specs.Direction.{isDirectionText, directionNumbers}
 use Rattle.fields.specs.Scan.{Scan, Line, Kind, Field, Minus, Digits, Broken, moreDigits, next, lineStart, afterNumber, run, atLine, signed, scanned, isMark, emit}
 use Rattle.fields.proofs.Cut.{Cut, line, cut, Sort, sort, areNumbers, isRest, book-is, book-empty, direction-is, lines-are}
 use Rattle.fields.proofs.Form.{accepted, stop, no-line, kind-is, letterBy, numberBy, positiveBy, digitsBy}

@@ -5,8 +5,8 @@ use Prim.Native.Nat.{ℕ, _+_}
 use native.Mathlib.Omega.{arith}
 use lib.IntN.{ℤ}
 use lib.ListN.{length, set, length-append}
-use Rattle.notes.specs.Reply.{filledWith}
-use Rattle.notes.proofs.Filled.{filled-none, filled-next}
+use Rattle.meaning.specs.Reply.{filledWith}
+use Rattle.meaning.proofs.Filled.{filled-none, filled-next}
 
 -- the invariant: `out` began as `old`, n numbers are done, and with `rest` they will be `all`
 pub record Writing (old out : List ℤ) (n : ℕ) (rest all : List ℤ) : Type 0 where

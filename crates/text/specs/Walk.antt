@@ -5,7 +5,7 @@ use mathlib.Core.Bool.{true, _&&_}
 use mathlib.Core.List.{List}
 use lib.IntN.{ℤ}
 use lib.ListN.{length, drop}
-use Rattle.notes.specs.Reply.{filledWith}
+use Rattle.meaning.specs.Reply.{filledWith}
 use Rattle.fields.specs.Scan.{Line, run, atLine, emitLine}
 use Rattle.fields.specs.Fields.{lineLength}
 use Rattle.text.specs.declared.TextLine.{TextLine}

@@ -5,7 +5,7 @@ use mathlib.Core.Path.{_≡_, refl, _∙_, sym, subst}
 use Prim.Native.Nat.{ℕ, _+_, _-_, _≤_}
 use lib.ListN.{length, drop, set, length-set}
 use Rattle.laws.proofs.Fill.{Filled, fill-start}
-use Rattle.notes.specs.Book.{Entry}
+use Rattle.meaning.specs.Book.{Entry}
 use Rattle.derivation.specs.Model.{PhraseOf}
 use Rattle.answer.proofs.Answers.{copy-more, copy-ends}
 use Rattle.answer.proofs.copy_words.Statement.{statement}

@@ -5,7 +5,7 @@ use mathlib.Core.Path.{_≡_, sym, ap}
 use mathlib.Core.List.{map}
 use Prim.Native.Nat.{_-_, _≤_}
 use lib.ListN.{take}
-use Rattle.notes.specs.Book.{bookOf}
+use Rattle.meaning.specs.Book.{bookOf}
 use Rattle.records.specs.Plain.{stepsOf}
 use Rattle.records.specs.declared.Plain.{Plain}
 use Rattle.states.specs.Ghost.{optionAt}

@@ -4,11 +4,11 @@ use native.Mathlib.Omega.{arith}
 use mathlib.Core.Path.{_≡_, refl, _∙_, ap, subst}
 use Prim.Native.Nat.{ℕ, _+_, _-_, _*_, _≤_}
 use lib.ListN.{length, length-take, length-drop}
-use Rattle.notes.specs.Book.{bookOf}
-use Rattle.notes.specs.Derivation.{entryAt, targetWords}
-use Rattle.notes.specs.Reply.{writtenOver}
+use Rattle.meaning.specs.Book.{bookOf}
+use Rattle.meaning.specs.Derivation.{entryAt, targetWords}
+use Rattle.meaning.specs.Reply.{writtenOver}
 use Rattle.derivation.specs.Model.{PhraseOf}
-use Rattle.notes.specs.declared.Step.{Step}
+use Rattle.meaning.specs.declared.Step.{Step}
 use Rattle.records.specs.Plain.{stepIn, stepsTo}
 use Rattle.laws.proofs.Fill.{over-long}
 use Rattle.answer.proofs.Answers.{write-count, write-more}

@@ -4,7 +4,7 @@ use mathlib.Core.Path.{_≡_, ap}
 use native.Mathlib.Omega.{arith}
 use lib.IntN.{pos}
 use lib.ListN.{length}
-use Rattle.notes.specs.Render.{decimal}
+use Rattle.meaning.specs.Render.{decimal}
 use Rattle.decimals.proofs.Digits.{digit, more-digits, at-most}
 use Rattle.decimals.proofs.digit_count.Statement.{statement}
 use Rattle.decimals.proofs.digit_count.Tie as tie

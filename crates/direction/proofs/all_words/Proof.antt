@@ -10,7 +10,7 @@ use mir.Syntax.{w32}
 use Rattle.laws.specs.Lists.{all}
 use Rattle.laws.proofs.Integers.{back-pos}
 use Rattle.laws.proofs.Lists.{all-map}
-use Rattle.notes.specs.Direction.{isDirectionWord}
+use Rattle.meaning.specs.Direction.{isDirectionWord}
 use Rattle.direction.proofs.Laws.{all-here, all-end}
 use Rattle.direction.proofs.all_words.Statement.{statement}
 use Rattle.direction.proofs.all_words.Tie as tie

@@ -9,7 +9,7 @@ use lib.ListN.{length, drop, getD}
 use mir.Syntax.{w32}
 use Rattle.laws.specs.Lists.{all}
 use Rattle.laws.proofs.Integers.{back}
-use Rattle.notes.specs.Direction.{isDirectionWord}
+use Rattle.meaning.specs.Direction.{isDirectionWord}
 use Rattle.direction.proofs.Laws.{all-here, all-end}
 use Rattle.direction.proofs.are_words.Statement.{statement}
 use Rattle.direction.proofs.are_words.Tie as tie

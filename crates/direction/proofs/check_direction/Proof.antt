@@ -5,9 +5,9 @@ use mathlib.Core.List.{map}
 use borrow.Author.Tests.{not-true, not-false}
 use lib.IntN.{pos}
 use lib.ListN.{length, length-map}
-use Rattle.notes.specs.Questions.{within}
-use Rattle.notes.specs.Direction.{directionRefusal}
-use Rattle.notes.proofs.Chains.{reply-refused, reply-done}
+use Rattle.meaning.specs.Questions.{within}
+use Rattle.meaning.specs.Direction.{directionRefusal}
+use Rattle.meaning.proofs.Chains.{reply-refused, reply-done}
 use Rattle.direction.proofs.Answers.{no-count, no-words, in-range}
 use borrow.Author.Needs.{needs}
 use Rattle.direction.proofs.check_direction.Statement.{statement}

@@ -1,7 +1,7 @@
 -- `direction::is_direction_word` meets its contract: what question 10 asks of a number is that it is a word of a book.
 use mathlib.Core.Path.{ap, _∙_}
 use mir.Facts.{toZ-ofZ}
-use Rattle.notes.specs.Direction.{isDirectionWord}
+use Rattle.meaning.specs.Direction.{isDirectionWord}
 use Rattle.direction.proofs.is_direction_word.Statement.{statement}
 use Rattle.direction.proofs.is_direction_word.Tie as tie
 

@@ -13,11 +13,11 @@ use lib.Seq.{length-take-le}
 use Rattle.laws.specs.Integers.{natOf}
 use Rattle.laws.specs.Lists.{all}
 use Rattle.laws.proofs.Tests.{between}
-use Rattle.notes.specs.Questions.{within}
-use Rattle.notes.specs.Direction.{isDirectionWord}
-use Rattle.notes.specs.Direction.{isDirectionText, directionNumbers, numbersRefusal}
-use Rattle.notes.specs.Reply.{writtenOver, filledWith}
-use Rattle.notes.proofs.Filled.{filled-length, filled-take}
+use Rattle.meaning.specs.Questions.{within}
+use Rattle.meaning.specs.Direction.{isDirectionWord}
+use Rattle.meaning.specs.Direction.{isDirectionText, directionNumbers, numbersRefusal}
+use Rattle.meaning.specs.Reply.{writtenOver, filledWith}
+use Rattle.meaning.proofs.Filled.{filled-length, filled-take}
 use Rattle.direction.proofs.Answers.{no-count, no-words, in-range, no-text, no-numbers, no-room, has-room, refused-so, done-so}
 use borrow.Author.Needs.{needs}
 use Rattle.direction.proofs.read_direction.Statement.{statement}

@@ -11,7 +11,7 @@ use Rattle.laws.specs.Integers.{natOf}
 use Rattle.laws.proofs.Fill.{Filled, fill-start, fill-room, fill-put, fill-count, fill-end}
 use Rattle.laws.proofs.Integers.{back}
 use Rattle.laws.proofs.Lists.{all-at}
-use Rattle.notes.specs.Direction.{isDirectionWord}
+use Rattle.meaning.specs.Direction.{isDirectionWord}
 use Rattle.direction.proofs.Laws.{word-fits, word-is, words-more, words-end}
 use Rattle.direction.proofs.write_words.Statement.{statement}
 use Rattle.direction.proofs.write_words.Tie as tie

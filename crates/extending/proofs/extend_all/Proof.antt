@@ -4,7 +4,7 @@ use native.Mathlib.Omega.{arith}
 use mathlib.Core.Path.{_≡_, refl, _∙_, sym}
 use Prim.Native.Nat.{_+_, _-_, _≤_}
 use lib.ListN.{length}
-use Rattle.notes.specs.Book.{bookOf}
+use Rattle.meaning.specs.Book.{bookOf}
 use Rattle.options.specs.Options.{startAt}
 use Rattle.states.specs.Ghost.{Growing}
 use Rattle.states.proofs.Ghost.{ended}
@@ -13,16 +13,16 @@ use Rattle.extending.proofs.extend_all.Statement.{statement}
 use Rattle.extending.proofs.extend_all.Tie as tie
 use Rattle.extending.proofs.extend_all.Reads as reads
 use Rattle.extending.proofs.extend_all.Lts as lts
-use Rattle.coverage.proofs.free_runs.Reads as free-runs-reads
+use Rattle.positions.proofs.free_runs.Reads as free-runs-reads
 use Rattle.extending.proofs.extend_at.Reads as extend-at-reads
 
 abbrev Inv-loop : tie.InvT-loop
-Inv-loop store₀ count book direction index options job source run c₀ i₀ store c i =
-    (i ≤ job .task .n) × ((length store ≡ length store₀) × Growing (bookOf book) direction (job .width) (source .place .size) (source .at) (startAt options i) store c)
+Inv-loop store₀ count book direction index options beam source run c₀ i₀ store c i =
+    (i ≤ beam .setup .n) × ((length store ≡ length store₀) × Growing (bookOf book) direction (beam .width) (source .place .size) (source .at) (startAt options i) store c)
 
 abbrev μ-loop : tie.MeasureT-loop
-μ-loop store₀ count book direction index options job source run c₀ i₀ store c i =
-    job .task .n - i
+μ-loop store₀ count book direction index options beam source run c₀ i₀ store c i =
+    beam .setup .n - i
 
 -- src/lib.rt:229:9
 free-runs-requires : tie.Need-free-runs-requires Inv-loop μ-loop

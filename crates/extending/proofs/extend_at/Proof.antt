@@ -5,7 +5,7 @@ use Prim.Native.Nat.{_-_, _≤_}
 use mathlib.Core.Path.{_≡_, refl, sym, _∙_}
 use native.Mathlib.Omega.{arith}
 use lib.ListN.{length}
-use Rattle.notes.specs.Book.{bookOf}
+use Rattle.meaning.specs.Book.{bookOf}
 use Rattle.options.specs.Options.{startAt}
 use Rattle.states.specs.Ghost.{Growing}
 use Rattle.extending.proofs.Turns.{covered-skips, far-skips, spot-starts, spot-rises, spot-option, spot-turn}
@@ -13,11 +13,11 @@ use Rattle.extending.proofs.extend_at.Statement.{statement}
 use Rattle.extending.proofs.extend_at.Tie as tie
 
 abbrev Inv-loop : tie.InvT-loop
-Inv-loop store₀ count book direction index options job spot to c₀ o₀ store c o =
-    (startAt options (spot .first - 1) ≤ o) × ((o ≤ to) × ((length store ≡ length store₀) × Growing (bookOf book) direction (job .width) (spot .source .place .size) (spot .source .at) o store c))
+Inv-loop store₀ count book direction index options beam spot to c₀ o₀ store c o =
+    (startAt options (spot .first - 1) ≤ o) × ((o ≤ to) × ((length store ≡ length store₀) × Growing (bookOf book) direction (beam .width) (spot .source .place .size) (spot .source .at) o store c))
 
 abbrev μ-loop : tie.MeasureT-loop
-μ-loop store₀ count book direction index options job spot to c₀ o₀ store c o = to - o
+μ-loop store₀ count book direction index options beam spot to c₀ o₀ store c o = to - o
 
 returns : tie.Need-returns Inv-loop μ-loop
 returns c = let b = c .before .before .before .before in covered-skips (b .pre .0) (b .pre .1 .0) (c .if1 .taken) (b .pre .1 .1)
@@ -60,7 +60,7 @@ extend-option-requires c κs =
     let l = c .before .before .before .loop in
     let t = c .before .before .before .before .before .before .start-at .ensures in
     let e = c .before .option-at .ensures in
-    let near : jumpFrom (s .args .spot .source .place .state .r) (s .args .spot .first) ≤ s .args .job .task .limit = (let h = c .before .before .before .before .before .before .before .if2 .left in let j = c .before .before .before .before .before .before .before .before .before .jump .ensures in omega arith) in
+    let near : jumpFrom (s .args .spot .source .place .state .r) (s .args .spot .first) ≤ s .args .beam .setup .limit = (let h = c .before .before .before .before .before .before .before .if2 .left in let j = c .before .before .before .before .before .before .before .before .before .jump .ensures in omega arith) in
     (rw (sym e) at (spot-turn (s .pre .0) (s .pre .1 .0) near (l .o) (l .inv .0) (let h = c .before .before .loop-test .taken in omega arith)), l .inv .1 .1 .1)
 
 enum-known-more : tie.Need-enum-known-more Inv-loop μ-loop

@@ -1,7 +1,7 @@
 -- The option is passed over where the run is too short for it, and else the search's next state is added.
 use borrow.Author.Needs.{needs}
-use Rattle.notes.specs.Book.{bookOf}
-use Rattle.notes.specs.Derivation.{entryAt}
+use Rattle.meaning.specs.Book.{bookOf}
+use Rattle.meaning.specs.Derivation.{entryAt}
 use Rattle.extending.proofs.Turns.{turn-skips, turn-can, turn-storable, turn-grows}
 use Rattle.extending.proofs.extend_option.Statement.{statement}
 use Rattle.extending.proofs.extend_option.Tie as tie

@@ -2,7 +2,7 @@
 use borrow.Author.Needs.{needs}
 use Prim.Native.Nat.{_+_}
 use mathlib.Core.Path.{ap}
-use Rattle.notes.specs.declared.State.{State}
+use Rattle.meaning.specs.declared.State.{State}
 use Rattle.store.specs.declared.Place.{Place}
 use Rattle.extending.specs.Extend.{nextPlace}
 use Rattle.extending.proofs.next_place.Statement.{statement}

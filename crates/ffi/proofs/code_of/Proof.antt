@@ -4,13 +4,13 @@ use mathlib.Core.Path.{ap, _∙_}
 use lib.IntN.{pos}
 use mir.Syntax.{w32}
 use Rattle.laws.proofs.Got.{nat}
-use Rattle.notes.proofs.Numbered.{number-to}
+use Rattle.meaning.proofs.Numbered.{number-to}
 use borrow.Author.Needs.{needs}
 use Rattle.ffi.proofs.code_of.Statement.{statement}
 use Rattle.ffi.proofs.code_of.Tie as tie
 use Rattle.ffi.proofs.code_of.Reads as reads
 use Rattle.ffi.proofs.code_of.Lts as lts
-use Rattle.notes.proofs.number_of.Reads as number-of-reads
+use Rattle.meaning.proofs.number_of.Reads as number-of-reads
 
 number-of-requires : tie.Need-number-of-requires
 number-of-requires c κs = search needs

@@ -3,11 +3,11 @@ use Prim.Native.Nat.{ℕ}
 use native.Mathlib.Omega.{arith}
 use mathlib.Core.Path.{sym, ap, _∙_, subst}
 use lib.IntN.{pos, negℤ}
-use Rattle.notes.specs.Reply.{readReply}
-use Rattle.notes.specs.declared.Read.{Read}
+use Rattle.meaning.specs.Reply.{readReply}
+use Rattle.meaning.specs.declared.Read.{Read}
 use Rattle.ffi.specs.Bounds.{Counted}
 use Rattle.ffi.specs.Calls.{countOrRefusal}
-use Rattle.notes.proofs.Numbered.{number-to}
+use Rattle.meaning.proofs.Numbered.{number-to}
 use Rattle.lists.proofs.Reports.{as64}
 use Rattle.ffi.proofs.Codes.{minus-fits, minus-is}
 use borrow.Author.Needs.{needs}
@@ -15,7 +15,7 @@ use Rattle.ffi.proofs.count_or_refusal.Statement.{statement}
 use Rattle.ffi.proofs.count_or_refusal.Tie as tie
 use Rattle.ffi.proofs.count_or_refusal.Reads as reads
 use Rattle.ffi.proofs.count_or_refusal.Lts as lts
-use Rattle.notes.proofs.number_of.Reads as number-of-reads
+use Rattle.meaning.proofs.number_of.Reads as number-of-reads
 
 enum-known-reply : tie.Need-enum-known-reply
 enum-known-reply c = search needs

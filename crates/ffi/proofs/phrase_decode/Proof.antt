@@ -6,14 +6,14 @@ use lib.IntN.{ℤ, pos}
 use lib.ListN.{length}
 use mir.Syntax.{w64}
 use mir.Val.{toZ, ofZ}
-use Rattle.decoder.specs.Core.{CoreDecodes}
-use Rattle.notes.specs.Reply.{decodedReply}
-use Rattle.notes.specs.declared.Decoded.{Decoded}
-use Rattle.notes.specs.Reply.{filledWith}
+use Rattle.decoder.specs.Decodes.{PlainDecodes}
+use Rattle.meaning.specs.Reply.{decodedReply}
+use Rattle.meaning.specs.declared.Decoded.{Decoded}
+use Rattle.meaning.specs.Reply.{filledWith}
 use Rattle.ffi.specs.Calls.{zeroOrRefusal, decodeReport}
 use Rattle.ffi.proofs.Codes.{code-back}
 use Rattle.ffi.proofs.Decoding.{decoded-numbers, countable}
-use Rattle.notes.proofs.Filled.{filled-none}
+use Rattle.meaning.proofs.Filled.{filled-none}
 use borrow.Author.Needs.{needs}
 use Rattle.ffi.proofs.phrase_decode.Statement.{statement}
 use Rattle.ffi.proofs.phrase_decode.Tie as tie
@@ -38,7 +38,7 @@ put-answer-requires c κs =
     let a = c .before .before .before .before .before .before .before .before .before .before .before .before .before .before .before .before .before .before .args in
     let back : toZ w64 (ofZ w64 (a .width)) ≡ a .width = search needs in
     countable (a .book .now) (a .direction .now) (a .width) (a .steps .now) (a .steps .now) (a .words .now) (c .before .before .before .before .before .before .before .before .before .before .before .before .decode-plain .last .1 .1 .1 .1 .0) (a .store .now) (c .before .before .before .before .before .before .before .before .before .before .before .before .decode-plain .last .1 .1 .1 .1 .1 .0) (c .before .before .before .before .before .before .before .before .before .before .before .before .decode-plain .result)
-    (subst (λ (w : ℤ). CoreDecodes (a .book .now) (a .direction .now) w (length (a .steps .now) / 3) (a .words .now) (c .before .before .before .before .before .before .before .before .before .before .before .before .decode-plain .last .1 .1 .1 .1 .0) (a .store .now) (c .before .before .before .before .before .before .before .before .before .before .before .before .decode-plain .last .1 .1 .1 .1 .1 .0) (c .before .before .before .before .before .before .before .before .before .before .before .before .decode-plain .result)) back (c .before .before .before .before .before .before .before .before .before .before .before .before .decode-plain .ensures))
+    (subst (λ (w : ℤ). PlainDecodes (a .book .now) (a .direction .now) w (length (a .steps .now) / 3) (a .words .now) (c .before .before .before .before .before .before .before .before .before .before .before .before .decode-plain .last .1 .1 .1 .1 .0) (a .store .now) (c .before .before .before .before .before .before .before .before .before .before .before .before .decode-plain .last .1 .1 .1 .1 .1 .0) (c .before .before .before .before .before .before .before .before .before .before .before .before .decode-plain .result)) back (c .before .before .before .before .before .before .before .before .before .before .before .before .decode-plain .ensures))
     (c .before .before .reply .given .0 .0) (c .before .before .reply .given .1) (omega (arith, c .before .before .before .before .before .before .before .before .before .before .before .before .before .before .before .before .before .before .good .1 .1 .1 .0)) (omega (arith, c .before .before .before .before .before .before .before .before .before .before .before .before .before .before .before .before .before .before .good .1 .1 .1 .1 .0)) (omega (arith, c .before .before .before .before .before .before .before .before .before .before .before .before .before .before .before .before .before .before .good .1 .1 .1 .1 .1 .0))
 
 enum-known-reply-2 : tie.Need-enum-known-reply-2
@@ -65,7 +65,7 @@ returns c =
     let back : toZ w64 (ofZ w64 (a .width)) ≡ a .width = search needs in
     let g = c .before .before .before .before .reply .given .1 in
     decoded-numbers (a .book .now) (a .direction .now) (a .width) (a .steps .now) (c .before .before .before .before .before .before .before .before .put-all .last .0) (a .words .now) (c .before .before .before .before .before .before .before .before .before .before .before .before .before .before .decode-plain .last .1 .1 .1 .1 .0) (a .store .now) (c .before .before .before .before .before .before .before .before .before .before .before .before .before .before .decode-plain .last .1 .1 .1 .1 .1 .0) (c .before .before .before .before .before .before .before .before .before .before .before .before .before .before .decode-plain .result)
-    (subst (λ (w : ℤ). CoreDecodes (a .book .now) (a .direction .now) w (length (a .steps .now) / 3) (a .words .now) (c .before .before .before .before .before .before .before .before .before .before .before .before .before .before .decode-plain .last .1 .1 .1 .1 .0) (a .store .now) (c .before .before .before .before .before .before .before .before .before .before .before .before .before .before .decode-plain .last .1 .1 .1 .1 .1 .0) (c .before .before .before .before .before .before .before .before .before .before .before .before .before .before .decode-plain .result)) back (c .before .before .before .before .before .before .before .before .before .before .before .before .before .before .decode-plain .ensures))
+    (subst (λ (w : ℤ). PlainDecodes (a .book .now) (a .direction .now) w (length (a .steps .now) / 3) (a .words .now) (c .before .before .before .before .before .before .before .before .before .before .before .before .before .before .decode-plain .last .1 .1 .1 .1 .0) (a .store .now) (c .before .before .before .before .before .before .before .before .before .before .before .before .before .before .decode-plain .last .1 .1 .1 .1 .1 .0) (c .before .before .before .before .before .before .before .before .before .before .before .before .before .before .decode-plain .result)) back (c .before .before .before .before .before .before .before .before .before .before .before .before .before .before .decode-plain .ensures))
     (a .report .now) (c .before .put-answer .last .0) (pos 0) (c .before .before .before .before .before .before .before .before .put-all .ensures)
     (sym (ap (λ (r : Decoded). zeroOrRefusal (decodedReply r)) g))
     (c .before .put-answer .ensures ∙ sym (ap (λ (r : Decoded). filledWith (decodeReport r) (a .report .now)) g))
@@ -85,7 +85,7 @@ returns-2 c =
     let back : toZ w64 (ofZ w64 (a .width)) ≡ a .width = search needs in
     let g = c .before .before .reply2 .given .1 in
     decoded-numbers (a .book .now) (a .direction .now) (a .width) (a .steps .now) (c .before .before .before .before .before .before .put-all .last .0) (a .words .now) (c .before .before .before .before .before .before .before .before .before .before .before .before .decode-plain .last .1 .1 .1 .1 .0) (a .store .now) (c .before .before .before .before .before .before .before .before .before .before .before .before .decode-plain .last .1 .1 .1 .1 .1 .0) (c .before .before .before .before .before .before .before .before .before .before .before .before .decode-plain .result)
-    (subst (λ (w : ℤ). CoreDecodes (a .book .now) (a .direction .now) w (length (a .steps .now) / 3) (a .words .now) (c .before .before .before .before .before .before .before .before .before .before .before .before .decode-plain .last .1 .1 .1 .1 .0) (a .store .now) (c .before .before .before .before .before .before .before .before .before .before .before .before .decode-plain .last .1 .1 .1 .1 .1 .0) (c .before .before .before .before .before .before .before .before .before .before .before .before .decode-plain .result)) back (c .before .before .before .before .before .before .before .before .before .before .before .before .decode-plain .ensures))
+    (subst (λ (w : ℤ). PlainDecodes (a .book .now) (a .direction .now) w (length (a .steps .now) / 3) (a .words .now) (c .before .before .before .before .before .before .before .before .before .before .before .before .decode-plain .last .1 .1 .1 .1 .0) (a .store .now) (c .before .before .before .before .before .before .before .before .before .before .before .before .decode-plain .last .1 .1 .1 .1 .1 .0) (c .before .before .before .before .before .before .before .before .before .before .before .before .decode-plain .result)) back (c .before .before .before .before .before .before .before .before .before .before .before .before .decode-plain .ensures))
     (a .report .now) (a .report .now) _ (c .before .before .before .before .before .before .put-all .ensures)
     (code-back (c .code-of .result) (c .before .before .reply2 .given .0 .0) (c .code-of .ensures) ∙ sym (ap (λ (r : Decoded). zeroOrRefusal (decodedReply r)) g))
     (filled-none (a .report .now) ∙ sym (ap (λ (r : Decoded). filledWith (decodeReport r) (a .report .now)) g))

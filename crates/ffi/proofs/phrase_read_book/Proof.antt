@@ -4,7 +4,7 @@ use mathlib.Core.Path.{ap, _∙_}
 use lib.ListN.{length}
 use mir.Syntax.{w64}
 use Rattle.laws.proofs.Integers.{back}
-use Rattle.notes.specs.Book.{loadedOf, readRefusal}
+use Rattle.meaning.specs.Book.{loadedOf, readRefusal}
 use Rattle.ffi.specs.Calls.{countOrRefusal}
 use Rattle.ffi.proofs.Codes.{counted, book-fits, book-reply}
 use borrow.Author.Needs.{needs}

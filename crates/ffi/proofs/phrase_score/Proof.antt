@@ -4,13 +4,13 @@ use mathlib.Core.List.{[], _∷_}
 use mir.Syntax.{w64}
 use mir.Val.{toZ, ofZ}
 use lib.IntN.{ℤ}
-use Rattle.notes.specs.Reply.{Reply, scoredReply}
-use Rattle.notes.specs.Reply.{filledWith}
+use Rattle.meaning.specs.Reply.{Reply, scoredReply}
+use Rattle.meaning.specs.Reply.{filledWith}
 use Rattle.phrase.proofs.Front.{gathered-decide}
 use Rattle.lists.specs.Steps.{recordsIn}
 use Rattle.ffi.specs.Calls.{zeroOrRefusal, scoreReport}
 use Rattle.ffi.proofs.Codes.{code-back}
-use Rattle.notes.proofs.Filled.{filled-none}
+use Rattle.meaning.proofs.Filled.{filled-none}
 use borrow.Author.Needs.{needs}
 use Rattle.ffi.proofs.phrase_score.Statement.{statement}
 use Rattle.ffi.proofs.phrase_score.Tie as tie

@@ -1,6 +1,6 @@
 -- Each way through its tests is the same way through the table of kinds.
 use borrow.Author.Tests.{eq-eqb, ne-eqb}
-use Rattle.notes.specs.Book.{kindOfByte}
+use Rattle.meaning.specs.Book.{kindOfByte}
 use Rattle.fields.proofs.kind_of.Statement.{statement}
 use Rattle.fields.proofs.kind_of.Tie as tie
 

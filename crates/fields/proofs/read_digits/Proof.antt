@@ -6,7 +6,7 @@ use native.Mathlib.Omega.{arith}
 use borrow.Author.Tests.{not-true, not-false}
 use lib.ListN.{length, getD}
 use Rattle.laws.proofs.Tests.{both, between}
-use Rattle.notes.specs.Numerals.{isDigit}
+use Rattle.meaning.specs.Numerals.{isDigit}
 use Rattle.fields.specs.Scan.{Digits, moreDigits}
 use Rattle.fields.specs.Fields.{Onward}
 use Rattle.fields.proofs.Fields.{on-start, on-more, on-digit}

@@ -9,7 +9,7 @@ use lib.IntN.{pos}
 use lib.ListN.{length, drop, getD}
 use Rattle.laws.specs.Lists.{all}
 use Rattle.laws.proofs.Lists.{dropLast-next, dropLast-end}
-use Rattle.notes.specs.Book.{isPhraseWord}
+use Rattle.meaning.specs.Book.{isPhraseWord}
 use Rattle.lines.proofs.Calls.{reread}
 use Rattle.lines.proofs.are_words.Statement.{statement}
 use Rattle.lines.proofs.are_words.Tie as tie

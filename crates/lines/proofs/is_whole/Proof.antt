@@ -1,6 +1,6 @@
 -- An empty line has no size; any other is whole where its length is its size.
 use Rattle.lines.proofs.Lines.{whole-empty, whole-some}
-use Rattle.notes.specs.Book.{InText}
+use Rattle.meaning.specs.Book.{InText}
 use borrow.Author.Needs.{needs}
 use Rattle.lines.proofs.is_whole.Statement.{statement}
 use Rattle.lines.proofs.is_whole.Tie as tie

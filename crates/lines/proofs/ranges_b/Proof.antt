@@ -2,8 +2,8 @@
 use mathlib.Core.Path.{_≡_, sym, _∙_}
 use borrow.Author.Tests.{not-true, not-false}
 use lib.IntN.{pos, negsuc}
-use Rattle.notes.specs.Questions.{withinℤ}
-use Rattle.notes.specs.Book.{numberAt, isScore}
+use Rattle.meaning.specs.Questions.{withinℤ}
+use Rattle.meaning.specs.Book.{numberAt, isScore}
 use Rattle.lines.proofs.Calls.{reread}
 use Rattle.lines.proofs.Lines.{b-limit, b-penalty, b-score}
 use borrow.Author.Needs.{needs}

@@ -1,7 +1,7 @@
 -- The words first, then the score, as the definition has them.
 use mathlib.Core.Path.{sym, _∙_}
 use borrow.Author.Tests.{not-true, not-false}
-use Rattle.notes.specs.Book.{isScore}
+use Rattle.meaning.specs.Book.{isScore}
 use Rattle.lines.proofs.Calls.{reread}
 use Rattle.lines.proofs.Lines.{p-words, p-score}
 use borrow.Author.Needs.{needs}

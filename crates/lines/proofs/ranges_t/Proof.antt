@@ -1,7 +1,7 @@
 -- Its four numbers are asked in the definition's order.
 use mathlib.Core.Path.{_≡_, sym, _∙_}
 use borrow.Author.Tests.{not-true, not-false}
-use Rattle.notes.specs.Book.{numberAt, isHistoryWord, isLastWord, isScore}
+use Rattle.meaning.specs.Book.{numberAt, isHistoryWord, isLastWord, isScore}
 use Rattle.lines.proofs.Calls.{reread}
 use Rattle.lines.proofs.Lines.{t-first, t-second, t-word, t-score}
 use borrow.Author.Needs.{needs}

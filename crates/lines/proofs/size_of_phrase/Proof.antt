@@ -3,7 +3,7 @@ use mathlib.Core.Path.{_≡_, sym, _∙_}
 use mathlib.Core.Bool.{true}
 use native.Mathlib.Omega.{arith}
 use borrow.Author.Tests.{not-true, not-false}
-use Rattle.notes.specs.Book.{numberAt, isPhraseLength}
+use Rattle.meaning.specs.Book.{numberAt, isPhraseLength}
 use Rattle.lines.proofs.Calls.{reread}
 use Rattle.lines.proofs.Lines.{length-to, phrase-first, phrase-second, phrase-both}
 use borrow.Author.Needs.{needs}

@@ -1,6 +1,6 @@
 -- Where 9 and 10 pass, the B line is read; else the direction's refusal is the answer.
 use mathlib.Core.Path.{ap, _∙_}
-use Rattle.notes.specs.Direction.{directionRefusal}
+use Rattle.meaning.specs.Direction.{directionRefusal}
 use Rattle.loading.specs.Loaded.{refusalOf}
 use Rattle.loading.proofs.Replies.{reply-number}
 use Rattle.opening.proofs.Starting.{prepared}
@@ -14,8 +14,8 @@ check-direction-requires c κs = search needs
 enum-told : tie.Need-enum-told
 enum-told c = search needs
 
-task-of-requires : tie.Need-task-of-requires
-task-of-requires c κs = search needs
+setup-of-requires : tie.Need-setup-of-requires
+setup-of-requires c κs = search needs
 
 enum-known-refusal : tie.Need-enum-known-refusal
 enum-known-refusal c = search needs
@@ -24,7 +24,7 @@ returns : tie.Need-returns
 returns c =
     let s = c .before .before .before .before .before in
     let k = c .before .before .before .check-direction in
-    prepared (s .args .direction .now) (s .pre) (reply-number (directionRefusal (s .args .direction .now)) (k .result) (k .ensures) ∙ ap refusalOf (c .before .enum-told .given .1)) (c .task-of .ensures)
+    prepared (s .args .direction .now) (s .pre) (reply-number (directionRefusal (s .args .direction .now)) (k .result) (k .ensures) ∙ ap refusalOf (c .before .enum-told .given .1)) (c .setup-of .ensures)
 
 returns-2 : tie.Need-returns-2
 returns-2 c =
@@ -38,7 +38,7 @@ begin-spec =
     (tie.spec
     check-direction-requires
     enum-told
-    task-of-requires
+    setup-of-requires
     enum-known-refusal
     returns
     returns-2)

@@ -1,6 +1,6 @@
 -- What 2 to 6 answer comes first; where they pass, what 9 and 10 answer.
-use Rattle.notes.specs.Book.{bookRefusal}
-use Rattle.notes.specs.Direction.{directionRefusal}
+use Rattle.meaning.specs.Book.{bookRefusal}
+use Rattle.meaning.specs.Direction.{directionRefusal}
 use Rattle.opening.proofs.Starting.{book-refuses, begun-starts}
 use borrow.Author.Needs.{needs}
 use Rattle.opening.proofs.open_and_begin.Statement.{statement}

@@ -4,8 +4,8 @@ use Prim.Native.Nat.{_+_, _-_, _*_, _^_, _≤_, _<_}
 use native.Mathlib.Omega.{arith}
 use mathlib.Core.Path.{_≡_, refl, sym, _∙_}
 use lib.ListN.{length}
-use Rattle.notes.specs.Book.{bookOf}
-use Rattle.notes.specs.Derivation.{entryAt}
+use Rattle.meaning.specs.Book.{bookOf}
+use Rattle.meaning.specs.Derivation.{entryAt}
 use Rattle.options.specs.Options.{optionsFrom, fittingAt, Listed}
 use Rattle.options.proofs.Fits.{Agreed, agreed-more, agreed-stops, agreed-ends, entry-past, entry-here}
 use Rattle.options.proofs.Listing.{at-none, listed-none, entry-skipped, entry-room, entry-taken}

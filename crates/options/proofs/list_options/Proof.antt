@@ -5,8 +5,8 @@ use native.Mathlib.Omega.{arith}
 use mathlib.Core.Path.{_≡_, refl, _∙_}
 use mathlib.Core.List.{List}
 use lib.ListN.{length}
-use Rattle.notes.specs.Book.{Book, bookOf}
-use Rattle.notes.specs.Direction.{wordCount}
+use Rattle.meaning.specs.Book.{Book, bookOf}
+use Rattle.meaning.specs.Direction.{wordCount}
 use Rattle.book.specs.Entries.{entriesMost}
 use Rattle.options.proofs.Listing.{Filled, filled-none, filled-more, at-most, options-are}
 use Rattle.options.proofs.list_options.Statement.{statement}

@@ -40,20 +40,20 @@ use denote.Triple.Clauses.{ensured, lasts}
 use denote.Triple.Table.{entered, cited}
 use denote.Triple.Walked.{says, Stays, gave-slice, stay-none-slice, stay-none, walkOf, goes-gave-slice, goes-none-slice, goes-none, Walks, ends-at, walked, walk-meets}
 use denote.Exit.{yes}
-use Rattle.notes.specs.declared.Step.{Step}
-use Rattle.notes.specs.declared.Decoded.{Decoded}
-use Rattle.notes.specs.Reply.{writtenOver, Decodes}
+use Rattle.meaning.specs.declared.Step.{Step}
+use Rattle.meaning.specs.declared.Decoded.{Decoded}
+use Rattle.meaning.specs.Reply.{writtenOver, Decodes}
 use Rattle.records.specs.Plain.{stepsOf}
-use Rattle.answer.specs.declared.Core.{Core as Answer}
-use Rattle.decoder.specs.Core.{CoreDecodes}
+use Rattle.answer.specs.declared.PlainReply.{PlainReply as Answer}
+use Rattle.decoder.specs.Decodes.{PlainDecodes}
 use Rattle.records.proofs.Walk.{tyAt}
-use Rattle.notes.proofs.Step as T
-use Rattle.notes.proofs.Decoded as R
-use Rattle.notes.proofs.Decoded.Laws as R′
+use Rattle.meaning.proofs.Step as T
+use Rattle.meaning.proofs.Decoded as R
+use Rattle.meaning.proofs.Decoded.Laws as R′
 use Rattle.records.proofs.Plain as P
 use Rattle.records.proofs.Plain.Laws as P′
-use Rattle.answer.proofs.Core as S
-use Rattle.answer.proofs.Core.Laws as S′
+use Rattle.answer.proofs.PlainReply as S
+use Rattle.answer.proofs.PlainReply.Laws as S′
 use Rattle.records.proofs.put_all as p
 use Rattle.records.proofs.put_all.Symbol as p-def
 use Rattle.records.proofs.put_all.Symbol.{name as #records·put-all}
@@ -69,7 +69,7 @@ use Rattle.phrase.proofs.decode.Code as code
 
 -- what `decode_plain` says: its answer, and the words and the store before and after
 abbrev Said : List ℤ → List ℕ → ℤ → ℕ → List ℕ → List ℕ → List ℤ → List ℤ → Answer → Type 0
-Said = CoreDecodes
+Said = PlainDecodes
 
 -- of which the walk itself needs that the steps have room
 has-room : {book : List ℤ} {direction : List ℕ} {width : ℤ} {room : ℕ} {words₀ words₁ : List ℕ} {store₀ store₁ : List ℤ} {r : Answer}

@@ -36,15 +36,15 @@ use denote.Triple.Clauses.{ensured, lasts}
 use denote.Triple.Table.{entered, cited}
 use denote.Triple.Walked.{says, Stays, stay-none-slice, walkOf, goes-none-slice, Walks, ends-at, walked, walk-meets}
 use denote.Exit.{yes}
-use Rattle.notes.specs.declared.Step.{Step}
-use Rattle.notes.specs.declared.Scored.{Scored}
+use Rattle.meaning.specs.declared.Step.{Step}
+use Rattle.meaning.specs.declared.Scored.{Scored}
 use Rattle.records.specs.declared.Plain.{Plain}
 use Rattle.records.specs.Plain.{stepsOf, Gathered}
-use Rattle.notes.specs.Reply.{scoredReply, scoreProposal}
+use Rattle.meaning.specs.Reply.{scoredReply, scoreProposal}
 use Rattle.phrase.proofs.Front.{gathered-decide}
-use Rattle.notes.proofs.Step as T
-use Rattle.notes.proofs.Scored as R
-use Rattle.notes.proofs.Scored.Laws as R′
+use Rattle.meaning.proofs.Step as T
+use Rattle.meaning.proofs.Scored as R
+use Rattle.meaning.proofs.Scored.Laws as R′
 use Rattle.records.proofs.Plain as S
 use Rattle.records.proofs.Plain.Laws as S′
 use Rattle.records.proofs.gather as p

@@ -2,7 +2,7 @@
 use borrow.Author.Needs.{needs}
 use native.Mathlib.Omega.{arith}
 use mir.Facts.{toZ-ofZ}
-use Rattle.plain.proofs.Whole.{refused-core}
+use Rattle.plain.proofs.Whole.{refused-plain}
 use Rattle.plain.proofs.decode_plain.Statement.{statement}
 use Rattle.plain.proofs.decode_plain.Tie as tie
 use Rattle.plain.proofs.decode_plain.Reads as reads
@@ -20,8 +20,8 @@ open-and-begin-requires : tie.Need-open-and-begin-requires
 open-and-begin-requires c κs = search needs
 
 -- src/lib.rt:32:22
-enum-known-task : tie.Need-enum-known-task
-enum-known-task c = search needs
+enum-known-setup : tie.Need-enum-known-setup
+enum-known-setup c = search needs
 
 -- src/lib.rt:37:17
 slice-aggregate-decode-with : tie.Need-slice-aggregate-decode-with
@@ -33,7 +33,7 @@ slice-aggregate-decode-with-2 c = search needs
 
 -- src/lib.rt:34:13
 decode-with-requires : tie.Need-decode-with-requires
-decode-with-requires c κs = let s = rw (c .before .before .before .before .before .task .given .1) at (c .before .before .before .before .before .before .before .before .open-and-begin .ensures) in (s, omega arith)
+decode-with-requires c κs = let s = rw (c .before .before .before .before .before .setup .given .1) at (c .before .before .before .before .before .before .before .before .open-and-begin .ensures) in (s, omega arith)
 
 -- src/lib.rt:48:24
 enum-known-refusal : tie.Need-enum-known-refusal
@@ -57,7 +57,7 @@ returns c = rw (toZ-ofZ (c .before .before .before .before .before .before .befo
 
 -- src/lib.rt:9:1
 returns-2 : tie.Need-returns-2
-returns-2 c = refused-core _ _ _ _ _ _ _ (rw (c .before .before .refusal .given .1) at (c .before .before .before .before .before .open-and-begin .ensures)) (c .refused .ensures)
+returns-2 c = refused-plain _ _ _ _ _ _ _ (rw (c .before .before .refusal .given .1) at (c .before .before .before .before .before .open-and-begin .ensures)) (c .refused .ensures)
 
 pub decode-plain-spec : {M : Type 1} → statement M
 decode-plain-spec =
@@ -65,7 +65,7 @@ decode-plain-spec =
     (tie.spec
     slice-aggregate-open-and-begin
     open-and-begin-requires
-    enum-known-task
+    enum-known-setup
     slice-aggregate-decode-with
     slice-aggregate-decode-with-2
     decode-with-requires

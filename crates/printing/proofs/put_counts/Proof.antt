@@ -8,8 +8,8 @@ use mir.Val.{toZ}
 use mir.Facts.{toZ-ofZ}
 use Rattle.laws.proofs.Bounds.{within-fits}
 use Rattle.laws.proofs.Got.{i64}
-use Rattle.notes.specs.Reply.{countsOf}
-use Rattle.notes.specs.Render.{printedLine}
+use Rattle.meaning.specs.Reply.{countsOf}
+use Rattle.meaning.specs.Render.{printedLine}
 use Rattle.decimals.proofs.Laws.{put-is}
 use Rattle.printing.proofs.Numbers.{cast-is, line-asks}
 use borrow.Author.Needs.{needs}

@@ -4,7 +4,7 @@ use mathlib.Core.List.{map}
 use native.Mathlib.Omega.{arith}
 use lib.ListN.{length, take}
 use Rattle.laws.specs.Lists.{concat}
-use Rattle.notes.specs.Render.{printedStep}
+use Rattle.meaning.specs.Render.{printedStep}
 use Rattle.records.specs.Plain.{stepIn, stepsOf}
 use Rattle.records.proofs.Laws.{count-steps, step-at}
 use Rattle.printing.specs.Lines.{plainOf}

@@ -2,7 +2,7 @@
 use native.Mathlib.Omega.{arith}
 use mathlib.Core.Path.{sym, ap}
 use lib.Seq.{length-take-le}
-use Rattle.notes.specs.Render.{printedLine}
+use Rattle.meaning.specs.Render.{printedLine}
 use Rattle.decimals.proofs.Laws.{put-is}
 use Rattle.printing.proofs.Numbers.{words-put, line-asks}
 use borrow.Author.Needs.{needs}

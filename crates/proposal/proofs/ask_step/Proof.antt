@@ -5,12 +5,12 @@ use native.Mathlib.Omega.{arith}
 use mathlib.Core.Path.{_≡_, sym, _∙_}
 use mathlib.Core.Bool.{true}
 use borrow.Author.Tests.{not-true, not-false, lt-leb}
-use Rattle.notes.specs.Book.{Book, bookOf}
-use Rattle.notes.specs.Direction.{wordCount}
-use Rattle.notes.specs.Derivation.{fits, jump, entryAt}
-use Rattle.notes.specs.State.{Key, isFree, keyOf}
-use Rattle.notes.specs.declared.Step.{Step}
-use Rattle.notes.proofs.Steps.{fits-facts}
+use Rattle.meaning.specs.Book.{Book, bookOf}
+use Rattle.meaning.specs.Direction.{wordCount}
+use Rattle.meaning.specs.Derivation.{fits, jump, entryAt}
+use Rattle.meaning.specs.State.{Key, isFree, keyOf}
+use Rattle.meaning.specs.declared.Step.{Step}
+use Rattle.meaning.proofs.Steps.{fits-facts}
 use Rattle.proposal.specs.Proposal.{stepOf}
 use Rattle.proposal.proofs.Asking.{asked-16, asked-17, asked-18, free-is, direction-few, last-inside, can-next, follows}
 use Rattle.proposal.proofs.ask_step.Statement.{statement}

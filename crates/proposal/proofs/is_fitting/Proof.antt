@@ -2,8 +2,8 @@
 use borrow.Author.Needs.{needs}
 use native.Mathlib.Omega.{arith}
 use mathlib.Core.Path.{_∙_}
-use Rattle.notes.specs.Book.{bookOf}
-use Rattle.notes.specs.Derivation.{entryAt}
+use Rattle.meaning.specs.Book.{bookOf}
+use Rattle.meaning.specs.Derivation.{entryAt}
 use Rattle.proposal.specs.Proposal.{stepOf}
 use Rattle.proposal.proofs.Asking.{not-from, not-to, fits-words}
 use Rattle.proposal.proofs.is_fitting.Statement.{statement}

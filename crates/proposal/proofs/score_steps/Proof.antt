@@ -8,9 +8,9 @@ use lib.IntN.{ℤ}
 use lib.ListN.{length}
 use lib.Pow.{pow-mono, pow-pos}
 use Rattle.laws.proofs.Got.{i64}
-use Rattle.notes.specs.Book.{bookOf}
-use Rattle.notes.specs.Direction.{wordCount}
-use Rattle.notes.specs.Reply.{Reply, done}
+use Rattle.meaning.specs.Book.{bookOf}
+use Rattle.meaning.specs.Direction.{wordCount}
+use Rattle.meaning.specs.Reply.{Reply, done}
 use Rattle.proposal.specs.Proposal.{stepIn, stepsIn}
 use Rattle.proposal.proofs.Asking.{direction-few}
 use Rattle.proposal.proofs.Scoring.{rest, rest-start, rest-next, rest-end, Scoring, scoring-starts, scoring-goes, scoring-stops, scoring-lacks, scoring-ends}

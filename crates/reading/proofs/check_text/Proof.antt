@@ -1,9 +1,9 @@
 -- A survey that breaks off is refusal 1 or 2; of a whole one, what questions 3 to 6 answer is the text's answer.
 use mathlib.Core.Path.{ap, _∙_}
-use Rattle.notes.specs.Book.{InText, textLines}
-use Rattle.notes.specs.Reply.{readReply}
+use Rattle.meaning.specs.Book.{InText, textLines}
+use Rattle.meaning.specs.Reply.{readReply}
 use Rattle.reading.specs.Text.{textRefusal}
-use Rattle.notes.proofs.Numbered.{refused-reply}
+use Rattle.meaning.proofs.Numbered.{refused-reply}
 use Rattle.reading.proofs.TextReplies.{answer-counted}
 use borrow.Author.Needs.{needs}
 use Rattle.reading.proofs.check_text.Statement.{statement}

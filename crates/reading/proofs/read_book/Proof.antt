@@ -3,10 +3,10 @@ use mathlib.Core.Path.{_≡_, sym, ap, _∙_}
 use native.Mathlib.Omega.{arith}
 use borrow.Author.Tests.{le-leb, lt-leb}
 use lib.ListN.{length}
-use Rattle.notes.specs.Book.{loadedOf}
-use Rattle.notes.specs.Reply.{readReply}
-use Rattle.notes.specs.declared.Refusal.the-variants.{ListTooShort}
-use Rattle.notes.proofs.Chains.{done-passes, done-is}
+use Rattle.meaning.specs.Book.{loadedOf}
+use Rattle.meaning.specs.Reply.{readReply}
+use Rattle.meaning.specs.declared.Refusal.the-variants.{ListTooShort}
+use Rattle.meaning.proofs.Chains.{done-passes, done-is}
 use Rattle.reading.specs.Text.{textRefusal}
 use Rattle.reading.proofs.Reading.{text-is, no-room, has-room, refused-so, refused-text, done-so}
 use borrow.Author.Needs.{needs}

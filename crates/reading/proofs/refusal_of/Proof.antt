@@ -1,7 +1,7 @@
 -- Of a book's text a line is not whole, which is refusal 2; of another, refusal 1.
 use mathlib.Core.Path.{_≡_, sym, _∙_}
 use mathlib.Core.Bool.{true}
-use Rattle.notes.specs.Book.{InText, isBookText, textLines}
+use Rattle.meaning.specs.Book.{InText, isBookText, textLines}
 use Rattle.book.proofs.Counts.{broken-refusal}
 use borrow.Author.Needs.{needs}
 use Rattle.reading.proofs.refusal_of.Statement.{statement}

@@ -9,10 +9,10 @@ use lib.IntN.{ℤ}
 use lib.ListN.{length, take}
 use lib.Seq.{length-take-le}
 use Rattle.laws.proofs.Tests.{clash}
-use Rattle.notes.specs.Book.{InText, isWhole}
+use Rattle.meaning.specs.Book.{InText, isWhole}
 use Rattle.fields.proofs.Form.{no-book}
-use Rattle.notes.proofs.Filled.{filled-take}
-use Rattle.notes.proofs.Sizes.{too-long}
+use Rattle.meaning.proofs.Filled.{filled-take}
+use Rattle.meaning.proofs.Sizes.{too-long}
 use Rattle.book.proofs.Counts.{few-more}
 use Rattle.reading.proofs.Walk.{Walked, numbersAt, row-later, walk-start, walk-next, walk-bad, walk-broken, walk-end}
 use Rattle.reading.proofs.survey_text.Statement.{statement}

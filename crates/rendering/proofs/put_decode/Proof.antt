@@ -1,11 +1,11 @@
 -- What was decoded fits the output, and what is put is printed as the definition says.
 use mathlib.Core.Path.{refl, sym, subst}
 use native.Mathlib.Omega.{arith}
-use Rattle.notes.specs.Book.{bookOf}
-use Rattle.notes.specs.Render.{PrintsReply}
+use Rattle.meaning.specs.Book.{bookOf}
+use Rattle.meaning.specs.Render.{PrintsReply}
 use Rattle.decimals.proofs.Laws.{put-first, put-rest}
 use Rattle.rendering.specs.Parts.{decodeOff}
-use Rattle.rendering.proofs.Answered.{core-fits, core-prints}
+use Rattle.rendering.proofs.Answered.{reply-fits, reply-prints}
 use borrow.Author.Needs.{needs}
 use Rattle.rendering.proofs.put_decode.Statement.{statement}
 use Rattle.rendering.proofs.put_decode.Tie as tie
@@ -29,7 +29,7 @@ put-decoded-requires : tie.Need-put-decoded-requires
 put-decoded-requires c κs =
     let c6 = c .before .before .before .before .before .before in
     let s = c6 .before .before .before .before .before in
-    (s .pre, (core-fits _ _ _ _ _ _ _ (c6 .decode-plain .ensures) refl (search needs) refl, (omega (arith, slice-aggregate-put-decoded (c .before)), search needs)))
+    (s .pre, (reply-fits _ _ _ _ _ _ _ (c6 .decode-plain .ensures) refl (search needs) refl, (omega (arith, slice-aggregate-put-decoded (c .before)), search needs)))
 
 same-length : tie.Need-same-length
 same-length c = search needs
@@ -46,7 +46,7 @@ returns c =
       within = p .0;
       is =
           subst (PrintsReply (bookOf book) direction (decodeOff book direction)) (sym (p .1))
-          (core-prints _ _ _ _ _ _ _ (c9 .decode-plain .ensures) refl (search needs) refl);
+          (reply-prints _ _ _ _ _ _ _ (c9 .decode-plain .ensures) refl (search needs) refl);
       rest = put-rest (c2 .put-decoded .ensures);
     }
 

@@ -1,7 +1,7 @@
 -- Each reply with its lines.
 use mathlib.Core.Path.{sym, subst}
 use native.Mathlib.Omega.{arith}
-use Rattle.notes.specs.declared.Decoded.{Decoded}
+use Rattle.meaning.specs.declared.Decoded.{Decoded}
 use Rattle.decimals.specs.Put.{Put}
 use Rattle.rendering.specs.Parts.{FitsDecoded, printedDecoded}
 use Rattle.printing.proofs.Lengths.{refusal-short}

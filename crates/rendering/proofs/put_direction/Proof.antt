@@ -2,7 +2,7 @@
 use mathlib.Core.Path.{sym}
 use native.Mathlib.Omega.{arith}
 use lib.Seq.{length-take-le}
-use Rattle.notes.specs.Direction.{readDirectionRefusal, directionOf}
+use Rattle.meaning.specs.Direction.{readDirectionRefusal, directionOf}
 use Rattle.decimals.proofs.Laws.{put-first, put-rest}
 use Rattle.rendering.proofs.Inputs.{Filled, direction-filled, direction-refusal, direction-refused, direction-decoded}
 use Rattle.printing.proofs.Lengths.{refusal-short}

@@ -7,8 +7,8 @@ use borrow.Author.Tests.{not-true, not-false}
 use lib.Dec.{leb}
 use lib.ListN.{length}
 use lib.Seq.{length-take-le}
-use Rattle.notes.specs.Book.{loadedOf, readRefusal}
-use Rattle.notes.specs.declared.Refusal.the-variants.{ListTooShort}
+use Rattle.meaning.specs.Book.{loadedOf, readRefusal}
+use Rattle.meaning.specs.declared.Refusal.the-variants.{ListTooShort}
 use Rattle.decimals.proofs.Laws.{put-first, put-rest}
 use Rattle.rendering.proofs.Inputs.{Filled, book-filled, book-refusal, too-long, book-refused, book-read}
 use Rattle.printing.proofs.Lengths.{refusal-short}

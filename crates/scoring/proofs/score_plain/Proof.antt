@@ -3,7 +3,7 @@ use borrow.Author.Needs.{needs}
 use mathlib.Core.Path.{_≡_, sym, _∙_}
 use native.Mathlib.Omega.{arith}
 use lib.ListN.{length, length-map}
-use Rattle.notes.specs.Reply.{scoredReply}
+use Rattle.meaning.specs.Reply.{scoredReply}
 use Rattle.records.specs.Plain.{stepsOf}
 use Rattle.scoring.proofs.Scoring.{scored-last, refused-before}
 use Rattle.scoring.proofs.score_plain.Statement.{statement}

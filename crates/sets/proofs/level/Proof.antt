@@ -6,7 +6,7 @@ use Prim.Native.Nat.{_-_, _≤_}
 use lib.ListN.{length}
 use mir.Val.{toZ, ofZ}
 use mir.Syntax.{w64}
-use Rattle.notes.specs.Book.{bookOf}
+use Rattle.meaning.specs.Book.{bookOf}
 use Rattle.states.specs.Ghost.{Levelling}
 use Rattle.states.proofs.Ghost.{start-room, level-starts, level-ends, top-read}
 use Rattle.sets.proofs.level.Statement.{statement}
@@ -14,14 +14,14 @@ use Rattle.sets.proofs.level.Tie as tie
 use Rattle.sets.proofs.level.Reads as reads
 use Rattle.sets.proofs.level.Lts as lts
 use Rattle.sets.proofs.visit.Reads as visit-reads
-use Rattle.states.proofs.reading.top_score.Reads as top-score-reads
+use Rattle.states.proofs.best.top_score.Reads as top-score-reads
 
 abbrev Inv-loop : tie.InvT-loop
-Inv-loop store₀ count book direction index options job i top c₀ j₀ store c j =
-    (j ≤ count) × ((length store ≡ length store₀) × Levelling (bookOf book) direction (job .width) i j store c)
+Inv-loop store₀ count book direction index options beam i top c₀ j₀ store c j =
+    (j ≤ count) × ((length store ≡ length store₀) × Levelling (bookOf book) direction (beam .width) i j store c)
 
 abbrev μ-loop : tie.MeasureT-loop
-μ-loop store₀ count book direction index options job i top c₀ j₀ store c j =
+μ-loop store₀ count book direction index options beam i top c₀ j₀ store c j =
     count - j
 
 -- src/lib.rt:72:9

@@ -4,8 +4,8 @@ use native.Mathlib.Omega.{arith}
 use mathlib.Core.Path.{_≡_, refl, _∙_}
 use Prim.Native.Nat.{_-_, _≤_}
 use lib.ListN.{length}
-use Rattle.notes.specs.Book.{bookOf}
-use Rattle.notes.proofs.Demands.{direction-to}
+use Rattle.meaning.specs.Book.{bookOf}
+use Rattle.meaning.proofs.Demands.{direction-to}
 use Rattle.states.specs.Ghost.{Starting}
 use Rattle.states.proofs.Ghost.{some-state}
 use Rattle.store.proofs.Indexing.{indexed-none}
@@ -15,20 +15,20 @@ use Rattle.sets.proofs.search.Tie as tie
 use Rattle.sets.proofs.search.Reads as reads
 use Rattle.sets.proofs.search.Lts as lts
 use Rattle.sets.proofs.level.Reads as level-reads
-use Rattle.notes.proofs.State.start.Reads as start-reads
+use Rattle.meaning.proofs.State.start.Reads as start-reads
 use Rattle.store.proofs.index.append_place.Reads as append-place-reads
 
 abbrev Inv-loop : tie.InvT-loop
-Inv-loop store₀ book direction index options job c₀ i₀ store c i =
-    (i ≤ job .task .n) × ((length store ≡ length store₀) × Starting (bookOf book) direction (job .width) i store c)
+Inv-loop store₀ book direction index options beam c₀ i₀ store c i =
+    (i ≤ beam .setup .n) × ((length store ≡ length store₀) × Starting (bookOf book) direction (beam .width) i store c)
 
 abbrev μ-loop : tie.MeasureT-loop
-μ-loop store₀ book direction index options job c₀ i₀ store c i =
-    job .task .n - i
+μ-loop store₀ book direction index options beam c₀ i₀ store c i =
+    beam .setup .n - i
 
 -- src/lib.rt:103:9
 returns : tie.Need-returns Inv-loop μ-loop
-returns c = let s = c .before .before .before in omega (arith, some-state (bookOf (s .args .book .now)) (s .args .direction .now) (s .args .job .width), c .if1 .taken)
+returns c = let s = c .before .before .before in omega (arith, some-state (bookOf (s .args .book .now)) (s .args .direction .now) (s .args .beam .width), c .if1 .taken)
 
 -- src/lib.rt:109:20
 start-requires : tie.Need-start-requires Inv-loop μ-loop

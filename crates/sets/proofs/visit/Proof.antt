@@ -7,10 +7,10 @@ use lib.IntN.{ℤ}
 use mir.Val.{toZ, ofZ}
 use mir.Syntax.{w64}
 use Rattle.laws.specs.Integers.{Within}
-use Rattle.notes.specs.Book.{bookOf}
-use Rattle.notes.specs.State.{scoreBound}
-use Rattle.notes.proofs.Demands.{direction-to}
-use Rattle.notes.proofs.Ranges.{loaded-ranged}
+use Rattle.meaning.specs.Book.{bookOf}
+use Rattle.meaning.specs.State.{scoreBound}
+use Rattle.meaning.proofs.Demands.{direction-to}
+use Rattle.meaning.proofs.Ranges.{loaded-ranged}
 use Rattle.states.specs.Ghost.{inWidth, topOf}
 use Rattle.store.specs.declared.Place.{Place}
 use Rattle.states.proofs.Ghost.{here-inside, passed, dropped, here-score, top-small}
@@ -20,21 +20,21 @@ use Rattle.sets.proofs.visit.Tie as tie
 use Rattle.sets.proofs.visit.Reads as reads
 use Rattle.sets.proofs.visit.Lts as lts
 use Rattle.extending.proofs.extend_all.Reads as extend-all-reads
-use Rattle.states.proofs.reading.is_within.Reads as is-within-reads
+use Rattle.states.proofs.best.is_within.Reads as is-within-reads
 use Rattle.store.proofs.places.place_at.Reads as place-at-reads
 
-top-is : (c : tie.Start) → toZ w64 (ofZ w64 (c .args .candidate .top)) ≡ topOf (bookOf (c .args .book .now)) (c .args .direction .now) (c .args .job .width) (c .args .candidate .set)
+top-is : (c : tie.Start) → toZ w64 (ofZ w64 (c .args .candidate .top)) ≡ topOf (bookOf (c .args .book .now)) (c .args .direction .now) (c .args .beam .width) (c .args .candidate .set)
 top-is c =
     let p : toZ w64 (ofZ w64 (c .args .candidate .top)) ≡ c .args .candidate .top = search needs in
     p ∙ c .pre .1 .1 .0
 
 tested : (c : tie.After-is-within) → (let s = c .before .before .before .before .before .before .before .before .before .before in
-    c .is-within .result ≡ inWidth (s .args .job .width) (topOf (bookOf (s .args .book .now)) (s .args .direction .now) (s .args .job .width) (s .args .candidate .set)) (c .before .before .before .before .before .before .place-at .result .state .score))
+    c .is-within .result ≡ inWidth (s .args .beam .width) (topOf (bookOf (s .args .book .now)) (s .args .direction .now) (s .args .beam .width) (s .args .candidate .set)) (c .before .before .before .before .before .before .place-at .result .state .score))
 tested c =
     let s = c .before .before .before .before .before .before .before .before .before .before in
     let y = c .before .before .before .before .before .before .place-at .result .state .score in
-    let p : toZ w64 (ofZ w64 (s .args .job .width)) ≡ s .args .job .width = search needs in
-    c .is-within .ensures ∙ ap (λ (w : ℤ). inWidth w (toZ w64 (ofZ w64 (s .args .candidate .top))) y) p ∙ ap (λ (z : ℤ). inWidth (s .args .job .width) z y) (top-is s)
+    let p : toZ w64 (ofZ w64 (s .args .beam .width)) ≡ s .args .beam .width = search needs in
+    c .is-within .ensures ∙ ap (λ (w : ℤ). inWidth w (toZ w64 (ofZ w64 (s .args .candidate .top))) y) p ∙ ap (λ (z : ℤ). inWidth (s .args .beam .width) z y) (top-is s)
 
 -- src/lib.rt:45:9
 place-at-requires : tie.Need-place-at-requires
@@ -66,7 +66,7 @@ returns-2 : tie.Need-returns-2
 returns-2 c =
     let s = c .before .before .before .before .before .before .before .before .before .before .before in
     dropped _ _ _ (s .pre .1 .1 .1) (s .pre .1 .0 .1)
-    (ap (λ (y : Place). inWidth (s .args .job .width) (topOf (bookOf (s .args .book .now)) (s .args .direction .now) (s .args .job .width) (s .args .candidate .set)) (y .state .score)) (sym (c .before .before .before .before .before .before .before .place-at .ensures))
+    (ap (λ (y : Place). inWidth (s .args .beam .width) (topOf (bookOf (s .args .book .now)) (s .args .direction .now) (s .args .beam .width) (s .args .candidate .set)) (y .state .score)) (sym (c .before .before .before .before .before .before .before .place-at .ensures))
     ∙ sym (tested (c .before)) ∙ not-true _ (c .if2 .taken))
 
 -- src/lib.rt:56:5

@@ -3,7 +3,7 @@ use mathlib.Core.Path.{ap, _∙_}
 use mathlib.Core.List.{List}
 use lib.IntN.{ℤ}
 use lib.ListN.{length}
-use Rattle.notes.specs.Reply.{filledWith}
+use Rattle.meaning.specs.Reply.{filledWith}
 use Rattle.fields.proofs.Form.{direction-text}
 use Rattle.text.proofs.Numbers.{direction-numbers}
 use borrow.Author.Needs.{needs}

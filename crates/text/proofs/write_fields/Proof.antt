@@ -10,7 +10,7 @@ use borrow.Author.Needs.{needs}
 use Rattle.fields.specs.Scan.{run, atLine, emit}
 use Rattle.fields.specs.Fields.{start}
 use Rattle.fields.proofs.Fields.{field-good, field-ends, emit-end}
-use Rattle.notes.proofs.Filled.{filled-length}
+use Rattle.meaning.proofs.Filled.{filled-length}
 use Rattle.text.proofs.Row.{Writing, write-start, write-put, write-count, write-end}
 use Rattle.text.proofs.write_fields.Statement.{statement}
 use Rattle.text.proofs.write_fields.Tie as tie

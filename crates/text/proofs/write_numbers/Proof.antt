@@ -3,11 +3,11 @@ use mathlib.Core.Path.{ap, _∙_}
 use mathlib.Core.List.{List}
 use lib.IntN.{ℤ}
 use lib.ListN.{length}
-use Rattle.notes.specs.Book.{loadedOf}
-use Rattle.notes.specs.Reply.{filledWith}
+use Rattle.meaning.specs.Book.{loadedOf}
+use Rattle.meaning.specs.Reply.{filledWith}
 use Rattle.fields.proofs.Form.{book-run}
 use Rattle.text.proofs.Numbers.{book-numbers}
-use Rattle.notes.proofs.Filled.{filled-room}
+use Rattle.meaning.proofs.Filled.{filled-room}
 use borrow.Author.Needs.{needs}
 use Rattle.text.proofs.write_numbers.Statement.{statement}
 use Rattle.text.proofs.write_numbers.Tie as tie

@@ -1,7 +1,7 @@
 -- The line at the front of what is left is the line at `at`.
 use mathlib.Core.Path.{ap, _∙_}
 use Rattle.laws.proofs.Lists.{part-rest}
-use Rattle.notes.specs.Book.{isP}
+use Rattle.meaning.specs.Book.{isP}
 use borrow.Author.Needs.{needs}
 use Rattle.book.proofs.loaded.is_entry_at.Statement.{statement}
 use Rattle.book.proofs.loaded.is_entry_at.Tie as tie

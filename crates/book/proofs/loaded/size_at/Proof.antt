@@ -1,7 +1,7 @@
 -- The line at the front of what is left, if all of it is there.
 use mathlib.Core.Path.{ap, _∙_}
 use Rattle.laws.proofs.Lists.{part-rest}
-use Rattle.notes.specs.Book.{InList, sizeOf}
+use Rattle.meaning.specs.Book.{InList, sizeOf}
 use Rattle.book.proofs.Cuts.{size-fits, size-passes}
 use borrow.Author.Needs.{needs}
 use Rattle.book.proofs.loaded.size_at.Statement.{statement}

@@ -3,7 +3,7 @@ use mathlib.Core.Path.{refl, sym, ap, _∙_}
 use Prim.Native.Nat.{_-_}
 use native.Mathlib.Omega.{arith}
 use lib.ListN.{length}
-use Rattle.notes.specs.Book.{Part}
+use Rattle.meaning.specs.Book.{Part}
 use Rattle.book.specs.Loaded.{sizeAt}
 use Rattle.book.proofs.Cuts.{LineAt, line-here}
 use Rattle.book.proofs.Sought.{Sought, sought-start, sought-here, sought-next, sought-end, phrase-here}

@@ -52,15 +52,15 @@ use denote.Triple.Walked.{says, needs, Stays, gave-slice, stay-none-slice, stay-
 use denote.Exit.{yes}
 use borrow.Table.Elements.{at as atE, join-app, same-len}
 use borrow.Rule.Array.Share.{room-take}
-use Rattle.notes.specs.declared.Step.{Step}
-use Rattle.notes.specs.declared.Decoded.{Decoded}
-use Rattle.notes.specs.Reply.{Decodes}
+use Rattle.meaning.specs.declared.Step.{Step}
+use Rattle.meaning.specs.declared.Decoded.{Decoded}
+use Rattle.meaning.specs.Reply.{Decodes}
 use Rattle.case_records.specs.declared.decoding.Asked.{Asked}
 use Rattle.records.proofs.Prefix.{valOf, valsOf, prefix-length, arrayTy, front, rest, apart}
-use Rattle.notes.proofs.Step as T
-use Rattle.notes.proofs.Step.Laws as T′
-use Rattle.notes.proofs.Decoded as R
-use Rattle.notes.proofs.Decoded.Laws as R′
+use Rattle.meaning.proofs.Step as T
+use Rattle.meaning.proofs.Step.Laws as T′
+use Rattle.meaning.proofs.Decoded as R
+use Rattle.meaning.proofs.Decoded.Laws as R′
 use Rattle.case_records.proofs.decoding.Asked as S
 use Rattle.case_records.proofs.decoding.Asked.Laws as S′
 use Rattle.phrase.proofs.decode as g

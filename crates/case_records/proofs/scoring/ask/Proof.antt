@@ -50,14 +50,14 @@ use denote.Triple.Walked.{says, needs, Stays, stay-none-slice, stay-none, walkOf
 use denote.Exit.{yes}
 use borrow.Table.Elements.{join-app}
 use borrow.Rule.Array.Share.{room-take}
-use Rattle.notes.specs.declared.Step.{Step}
-use Rattle.notes.specs.declared.Scored.{Scored}
-use Rattle.notes.specs.Reply.{scoredReply, scoreProposal}
+use Rattle.meaning.specs.declared.Step.{Step}
+use Rattle.meaning.specs.declared.Scored.{Scored}
+use Rattle.meaning.specs.Reply.{scoredReply, scoreProposal}
 use Rattle.records.proofs.Prefix.{valOf, valsOf, prefix-length, arrayTy, front, rest, apart}
-use Rattle.notes.proofs.Step as T
-use Rattle.notes.proofs.Step.Laws as T′
-use Rattle.notes.proofs.Scored as R
-use Rattle.notes.proofs.Scored.Laws as R′
+use Rattle.meaning.proofs.Step as T
+use Rattle.meaning.proofs.Step.Laws as T′
+use Rattle.meaning.proofs.Scored as R
+use Rattle.meaning.proofs.Scored.Laws as R′
 use Rattle.phrase.proofs.score as g
 use Rattle.phrase.proofs.score.Symbol as g-def
 use Rattle.phrase.proofs.score.Symbol.{name as #phrase·score}

@@ -2,7 +2,7 @@
 use borrow.Author.Needs.{needs}
 use mathlib.Core.Path.{_≡_, refl, _∙_, ap}
 use Rattle.decoder.proofs.Deciding.{last-ends, told-all, found-is, concluded-by}
-use Rattle.decoder.specs.Core.{refusedBy, noAnswer}
+use Rattle.decoder.specs.Decodes.{refusedBy, noAnswer}
 use mir.Val.{toZ, ofZ}
 use mir.Syntax.{w64}
 use borrow.Author.Needs.{needs}
@@ -14,7 +14,7 @@ use Rattle.answer.proofs.trace.Reads as trace-reads
 use Rattle.decoder.proofs.decode.no_answer.Reads as no-answer-reads
 use Rattle.decoder.proofs.decode.refused.Reads as refused-reads
 use Rattle.clearing.proofs.clear_used.Reads as clear-used-reads
-use Rattle.states.proofs.reading.pick_best.Reads as pick-best-reads
+use Rattle.states.proofs.best.pick_best.Reads as pick-best-reads
 
 -- src/decode.rt:61:11
 pick-best-requires : tie.Need-pick-best-requires
@@ -54,7 +54,7 @@ same-length c = search needs
 
 -- src/decode.rt:44:1
 returns : tie.Need-returns
-returns c = let s = c .before .before .before .before .before .before .before .before .before .before .before .before .before in let back : toZ w64 (ofZ w64 (s .args .job .width)) ≡ s .args .job .width = search needs in let e = found-is _ _ _ (s .pre .1 .0) (s .pre .0 .n-is) _ (c .before .before .before .before .before .before .before .before .pick-best .ensures .1) (c .before .before .before .before .before .before .enum-told .given .1) in (concluded-by _ _ _ (s .pre .1 .0) e _ _ _ (c .refused .ensures ∙ ap refusedBy (c .before .no-answer .ensures ∙ ap noAnswer back), refl), c .before .before .before .before .clear-used .ensures)
+returns c = let s = c .before .before .before .before .before .before .before .before .before .before .before .before .before in let back : toZ w64 (ofZ w64 (s .args .beam .width)) ≡ s .args .beam .width = search needs in let e = found-is _ _ _ (s .pre .1 .0) (s .pre .0 .n-is) _ (c .before .before .before .before .before .before .before .before .pick-best .ensures .1) (c .before .before .before .before .before .before .enum-told .given .1) in (concluded-by _ _ _ (s .pre .1 .0) e _ _ _ (c .refused .ensures ∙ ap refusedBy (c .before .no-answer .ensures ∙ ap noAnswer back), refl), c .before .before .before .before .clear-used .ensures)
 
 -- src/decode.rt:44:1
 same-length-2 : tie.Need-same-length-2

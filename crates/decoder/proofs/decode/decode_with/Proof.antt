@@ -10,8 +10,8 @@ use lib.Signed.{leZ}
 use mir.Val.{toZ, ofZ}
 use mir.Syntax.{w64}
 use Rattle.laws.proofs.Linear.{signed}
-use Rattle.notes.specs.Direction.{wordCount}
-use Rattle.notes.proofs.Demands.{direction-to}
+use Rattle.meaning.specs.Direction.{wordCount}
+use Rattle.meaning.proofs.Demands.{direction-to}
 use Rattle.decoder.proofs.Replies.{refuses-11, refuses-12, searches, made-searchable, room-is, room-both}
 use borrow.Author.Needs.{needs}
 use Rattle.decoder.proofs.decode.decode_with.Statement.{statement}
@@ -23,10 +23,10 @@ use Rattle.decoder.proofs.decode.refused.Reads as refused-reads
 use Rattle.decoder.proofs.decode.search_for_best.Reads as search-for-best-reads
 use Rattle.options.proofs.list_options.Reads as list-options-reads
 
-wide : (c : tie.Else1) → leZ (negsuc 0) (c .before .before .before .before .before .before .args .job .width) ≡ true
+wide : (c : tie.Else1) → leZ (negsuc 0) (c .before .before .before .before .before .before .args .beam .width) ≡ true
 wide c =
     let s = c .before .before .before .before .before .before in
-    let back : toZ w64 (ofZ w64 (s .args .job .width)) ≡ s .args .job .width = search needs in
+    let back : toZ w64 (ofZ w64 (s .args .beam .width)) ≡ s .args .beam .width = search needs in
     omega (arith, signed, rw back at (c .if1 .left))
 
 -- src/decode.rt:171:9
@@ -35,7 +35,7 @@ refused-requires c κs = search needs
 
 -- src/decode.rt:171:9
 returns : tie.Need-returns
-returns c = let s = c .before .before .before .before .before .before .before in let back : toZ w64 (ofZ w64 (s .args .job .width)) ≡ s .args .job .width = search needs in let w : leZ (negsuc 0) (s .args .job .width) ≡ false = omega (arith, signed, rw back at (c .before .if1 .taken)) in refuses-11 _ _ _ _ _ _ (s .pre .0 .passed) (s .pre .0 .directed) w (c .refused .ensures)
+returns c = let s = c .before .before .before .before .before .before .before in let back : toZ w64 (ofZ w64 (s .args .beam .width)) ≡ s .args .beam .width = search needs in let w : leZ (negsuc 0) (s .args .beam .width) ≡ false = omega (arith, signed, rw back at (c .before .if1 .taken)) in refuses-11 _ _ _ _ _ _ (s .pre .0 .passed) (s .pre .0 .directed) w (c .refused .ensures)
 
 -- src/decode.rt:173:9
 has-room-requires : tie.Need-has-room-requires
@@ -47,7 +47,7 @@ refused-requires-2 c κs = search needs
 
 -- src/decode.rt:174:9
 returns-2 : tie.Need-returns-2
-returns-2 c = let s = c .before .before .before .before .before .before .before .before .before in let w : leZ (negsuc 0) (s .args .job .width) ≡ true = wide (c .before .before .before) in refuses-12 _ _ _ _ _ _ (s .pre .0 .passed) (s .pre .0 .directed) w (room-is (s .args .room) (length (s .args .words .now)) (s .pre .0 .n-is) (c .before .before .has-room .ensures) ∙ not-true _ (c .before .if2 .taken)) (c .refused2 .ensures)
+returns-2 c = let s = c .before .before .before .before .before .before .before .before .before in let w : leZ (negsuc 0) (s .args .beam .width) ≡ true = wide (c .before .before .before) in refuses-12 _ _ _ _ _ _ (s .pre .0 .passed) (s .pre .0 .directed) w (room-is (s .args .room) (length (s .args .words .now)) (s .pre .0 .n-is) (c .before .before .has-room .ensures) ∙ not-true _ (c .before .if2 .taken)) (c .refused2 .ensures)
 
 -- src/decode.rt:172:5
 list-options-requires : tie.Need-list-options-requires

@@ -7,7 +7,7 @@ use mir.Syntax.{w64}
 use mir.Facts.{sfits-lit}
 use Rattle.laws.specs.Integers.{eqℤ}
 use Rattle.laws.proofs.Linear.{signed, bits-eq, bits-ne, ne-out}
-use Rattle.notes.specs.declared.Refusal.the-variants.{NoDerivation, LastSetEmpty}
+use Rattle.meaning.specs.declared.Refusal.the-variants.{NoDerivation, LastSetEmpty}
 use Rattle.decoder.proofs.decode.no_answer.Statement.{statement}
 use Rattle.decoder.proofs.decode.no_answer.Tie as tie
 use Rattle.decoder.proofs.decode.no_answer.Reads as reads

@@ -1,7 +1,7 @@
 -- No steps, and the refusal.
 use borrow.Author.Needs.{needs}
 use mathlib.Core.Path.{ap}
-use Rattle.notes.specs.declared.Decoded.the-variants.{Refused}
+use Rattle.meaning.specs.declared.Decoded.the-variants.{Refused}
 use Rattle.records.specs.declared.Plain.{Plain}
 use borrow.Author.Needs.{needs}
 use Rattle.decoder.proofs.decode.refused.Statement.{statement}

@@ -8,7 +8,7 @@ use mir.Syntax.{w32, w64}
 use mir.Val.{SFits}
 use Rattle.laws.proofs.Integers.{nat-neg, nat-pos, nat-cast}
 use Rattle.laws.proofs.Linear.{told}
-use Rattle.notes.specs.Bounds.{wordSpan}
+use Rattle.meaning.specs.Bounds.{wordSpan}
 use Rattle.derivation.specs.Model.{wordIn}
 use Rattle.derivation.proofs.model.word_at.Statement.{statement}
 use Rattle.derivation.proofs.model.word_at.Tie as tie

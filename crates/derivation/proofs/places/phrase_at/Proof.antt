@@ -9,9 +9,9 @@ use mir.Facts.{toZ-ofZ}
 use Rattle.laws.specs.Integers.{Within}
 use Rattle.laws.proofs.Bounds.{within-fits}
 use Rattle.laws.proofs.Got.{i32}
-use Rattle.notes.specs.Bounds.{scoreMost}
-use Rattle.notes.specs.Book.{bookOf, numberAt, naturalAt}
-use Rattle.notes.specs.Derivation.{noEntry, entryAt}
+use Rattle.meaning.specs.Bounds.{scoreMost}
+use Rattle.meaning.specs.Book.{bookOf, numberAt, naturalAt}
+use Rattle.meaning.specs.Derivation.{noEntry, entryAt}
 use Rattle.book.specs.Entries.{EntryAt}
 use Rattle.derivation.proofs.Entries.{entry-stands}
 use Rattle.derivation.proofs.places.phrase_at.Statement.{statement}

@@ -8,8 +8,8 @@ use mir.Syntax.{w64}
 use mir.Val.{toZ}
 use Rattle.laws.specs.Integers.{Within}
 use Rattle.laws.proofs.Got.{Got, i64, held, nat, add, mul, fits, kept}
-use Rattle.notes.specs.State.{gainBound}
-use Rattle.notes.specs.Bounds.{scoreMost, penaltyMost, saidBound}
+use Rattle.meaning.specs.State.{gainBound}
+use Rattle.meaning.specs.Bounds.{scoreMost, penaltyMost, wordsBound}
 use Rattle.derivation.specs.Next.{gainBy}
 use Rattle.derivation.proofs.step.gain.Statement.{statement}
 use Rattle.derivation.proofs.step.gain.Tie as tie
@@ -24,8 +24,8 @@ module _ (c : tie.After-struct-told3) where
   first-two : Got (scoreMost + penaltyMost * 32) (i64 (b .args .p .g) +ℤ i64 (i64 (b .args .t .eta) *ℤ toZ w64 (b .args .far))) (b .args .p .g +ℤ b .args .t .eta *ℤ pos (b .args .far))
   first-two = let e : i64 (b .args .p .g) ≡ b .args .p .g = search needs in add (held e (b .pre .1 .0)) (kept w64 penalty (omega arith))
 
-  all-three : Got (scoreMost + penaltyMost * 32 + saidBound) (i64 (i64 (b .args .p .g) +ℤ i64 (i64 (b .args .t .eta) *ℤ toZ w64 (b .args .far))) +ℤ i64 (b .args .said .score)) (b .args .p .g +ℤ b .args .t .eta *ℤ pos (b .args .far) +ℤ b .args .said .score)
-  all-three = let e : i64 (b .args .said .score) ≡ b .args .said .score = search needs in add (kept w64 first-two (omega arith)) (held e (b .pre .1 .1 .1))
+  all-three : Got (scoreMost + penaltyMost * 32 + wordsBound) (i64 (i64 (b .args .p .g) +ℤ i64 (i64 (b .args .t .eta) *ℤ toZ w64 (b .args .far))) +ℤ i64 (b .args .row .score)) (b .args .p .g +ℤ b .args .t .eta *ℤ pos (b .args .far) +ℤ b .args .row .score)
+  all-three = let e : i64 (b .args .row .score) ≡ b .args .row .score = search needs in add (kept w64 first-two (omega arith)) (held e (b .pre .1 .1 .1))
 
 -- src/step.rt:37:15
 cast-result : tie.Need-cast-result

@@ -9,9 +9,9 @@ use mir.Syntax.{w64}
 use Rattle.laws.specs.Integers.{Within}
 use Rattle.laws.proofs.Bounds.{within-fits}
 use Rattle.laws.proofs.Got.{Got, i64, held, add, fits, kept}
-use Rattle.notes.specs.Bounds.{scoreMost}
-use Rattle.notes.specs.State.{scoreBound, gainBound}
-use Rattle.derivation.proofs.Says.{next-is}
+use Rattle.meaning.specs.Bounds.{scoreMost}
+use Rattle.meaning.specs.State.{scoreBound, gainBound}
+use Rattle.derivation.proofs.Rows.{next-is}
 use Rattle.derivation.proofs.step.next_state.Statement.{statement}
 use Rattle.derivation.proofs.step.next_state.Tie as tie
 
@@ -25,8 +25,8 @@ total c =
     add (held old (b .pre .1 .1 .score-within)) (held new (c .before .before .gain .ensures .1))
 
 -- src/step.rt:47:9
-say-requires : tie.Need-say-requires
-say-requires c κs = search needs
+row-of-requires : tie.Need-row-of-requires
+row-of-requires c κs = search needs
 
 -- src/step.rt:48:32
 cast-jump : tie.Need-cast-jump
@@ -43,7 +43,7 @@ gain-requires c κs =
     let p = b .pre .1 .0 in
     let j = c .jump .ensures in
     let n = b .pre .1 .1 .near in
-    (b .pre .1 .1 .eta-within, (subst (Within scoreMost) (sym (p .is .g-is)) (p .is .g-within), (omega arith, c .before .before .say .ensures .1)))
+    (b .pre .1 .1 .eta-within, (subst (Within scoreMost) (sym (p .is .g-is)) (p .is .g-within), (omega arith, c .before .before .row-of .ensures .1)))
 
 -- src/step.rt:53:18
 covered-with-requires : tie.Need-covered-with-requires
@@ -62,15 +62,15 @@ returns : tie.Need-returns
 returns c = λ e q.
     let b = c .before .before .before .before .before .before in
     next-is (b .args .index .now) (b .args .t) (b .args .p) e (b .args .first) (b .args .last) (b .args .s)
-    (c .before .before .before .before .before .say .result) (c .before .before .before .jump .result) (c .covered-with .result) (c .before .before .gain .result) _
-    (c .before .before .before .before .before .say .ensures .0 e q) (c .before .before .before .jump .ensures) (c .covered-with .ensures) (c .before .before .gain .ensures .0)
+    (c .before .before .before .before .before .row-of .result) (c .before .before .before .jump .result) (c .covered-with .result) (c .before .before .gain .result) _
+    (c .before .before .before .before .before .row-of .ensures .0 e q) (c .before .before .before .jump .ensures) (c .covered-with .ensures) (c .before .before .gain .ensures .0)
     (kept w64 (total c) (omega arith) .is)
 
 pub next-state-spec : {M : Type 1} → statement M
 next-state-spec =
     tie.close
     (tie.spec
-    say-requires
+    row-of-requires
     cast-jump
     jump-requires
     gain-requires

@@ -1,8 +1,8 @@
 -- What loading answers, without the list, is the reply of questions 2 to 6.
-use Rattle.notes.specs.Book.{bookRefusal}
+use Rattle.meaning.specs.Book.{bookRefusal}
 use mathlib.Core.Path.{ap, _∙_}
 use Rattle.loading.proofs.Replies.{answer-reply}
-use Rattle.notes.specs.Reply.{checkedReply, checkBook}
+use Rattle.meaning.specs.Reply.{checkedReply, checkBook}
 use borrow.Author.Needs.{needs}
 use Rattle.loading.proofs.check.check_book.Statement.{statement}
 use Rattle.loading.proofs.check.check_book.Tie as tie

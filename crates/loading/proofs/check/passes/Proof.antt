@@ -2,7 +2,7 @@
 use mathlib.Core.Path.{ap, _∙_}
 use Rattle.loading.proofs.Replies.{check-number, test-passed, test-refused}
 use Rattle.loading.specs.Loaded.{refusalOf}
-use Rattle.notes.specs.Book.{bookRefusal}
+use Rattle.meaning.specs.Book.{bookRefusal}
 use borrow.Author.Needs.{needs}
 use Rattle.loading.proofs.check.passes.Statement.{statement}
 use Rattle.loading.proofs.check.passes.Tie as tie

@@ -1,5 +1,5 @@
 -- The survey of the list is that of its lines, and what they answer is what the list answers.
-use Rattle.notes.specs.Book.{InList, loadedLines, bookRefusal, bookOf}
+use Rattle.meaning.specs.Book.{InList, loadedLines, bookRefusal, bookOf}
 use Rattle.loading.proofs.Answers.{survey-loaded}
 use borrow.Author.Needs.{needs}
 use Rattle.loading.proofs.load.load.Statement.{statement}

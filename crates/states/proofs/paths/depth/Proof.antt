@@ -2,8 +2,8 @@
 use mathlib.Core.List.{List}
 use Prim.Native.Nat.{ℕ, _+_, _-_, _<_, _≤_}
 use lib.ListN.{length, getD}
-use Rattle.notes.specs.State.{Hyp}
-use Rattle.notes.specs.declared.Step.{Step}
+use Rattle.meaning.specs.State.{Hyp}
+use Rattle.meaning.specs.declared.Step.{Step}
 use Rattle.states.specs.Shows.{nobody}
 use borrow.Author.Needs.{needs}
 use native.Mathlib.Omega.{arith}

@@ -5,8 +5,8 @@ use mathlib.Core.Path.{_≡_, refl, _∙_}
 use mathlib.Core.List.{List}
 use Prim.Native.Nat.{ℕ, _<_, _≤_}
 use lib.ListN.{length, length-set}
-use Rattle.notes.specs.State.{Hyp}
-use Rattle.notes.specs.declared.Step.{Step}
+use Rattle.meaning.specs.State.{Hyp}
+use Rattle.meaning.specs.declared.Step.{Step}
 use Rattle.states.specs.Back.{Chains, Behind}
 use Rattle.states.proofs.Back.{back-starts, back-goes, back-ends}
 use Rattle.states.proofs.paths.path.Statement.{statement}

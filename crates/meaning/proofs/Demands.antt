@@ -1,0 +1,393 @@
+-- The demands on the replies, in the words of document 01: what scoring and decoding report, and what each refusal says.
+use Prim.Native.Nat.{ℕ, zero, suc, _*_, _/_, _≤_, _<_}
+use native.Mathlib.Omega.{arith}
+use mathlib.Core.Path.{_≡_, refl, sym, _∙_, ap, subst}
+use mathlib.Core.Logic.{_↔_, _⊎_, inl, inr, ⊎-elim}
+use mathlib.Core.Bool.{Bool, true, false, not, cond, _&&_, _||_, true≢false, false≢true}
+use mathlib.Core.List.{List, [], _∷_, map, List·Memᴰ, List·Memᴰ·head}
+use mathlib.Core.Option.{Option, none, some}
+use borrow.Author.Tests.{leb-true, leb-false, le-leb, lt-leb, not-true}
+use lib.Dec.{leb}
+use lib.IntN.{ℤ, pos, negsuc}
+use lib.Signed.{leZ, _≤ℤ_}
+use lib.ListN.{length, length-map}
+use Rattle.laws.specs.Integers.{Within}
+use Rattle.laws.specs.Lists.{all, isEmpty}
+use Rattle.laws.proofs.Tests.{by-test, both, is-false, clash}
+use Rattle.laws.proofs.Bounds.{within-mono}
+use Rattle.meaning.specs.Questions.{_unless_, _orelse_, within}
+use Rattle.meaning.specs.Book.{Form, InList, Book, bookOf, bookRefusal, linesRefusal, loadedLines, isWhole, isOneBFirst, isInRange, isNotTooLong, isNoTripleTwice}
+use Rattle.meaning.specs.Direction.{wordCount, isDirectionWord, directionRefusal, numbersRefusal}
+use Rattle.meaning.specs.Derivation.{IsDerivation, fits, jump, isValid, targetWords, scoreOf}
+use Rattle.meaning.specs.State.{Key, Hyp, start, isFree, nextKey, scoreBound, spreadBound}
+use Rattle.meaning.specs.Search.{isOff, entered, lastSet, answer}
+use Rattle.meaning.specs.Reply.{refused, done, reply, Lent, Outcome, stepsRefusal, proposalRefusal, scoreProposal, beforeSearch, afterSearch, decodeRefusal, answerScore, searchOutcome, decode}
+use Rattle.meaning.specs.declared.Step.{Step}
+use Rattle.meaning.proofs.Chains.{first-passes, rest-passes, test-passes, skip, chain-to, test-to, done-passes, done-is, refused-is, reply-refused}
+use Rattle.meaning.proofs.Valid.{proposal-valid}
+use Rattle.meaning.proofs.Ranges.{loaded-ranged}
+use Rattle.meaning.proofs.Answers.{covered-to, entered-bound, answer-last, answer-derives, answer-none, answer-best, none-valid, last-valid, valid-bound}
+use Rattle.meaning.proofs.Widths.{wide-entered, wide-answer, wide-last}
+
+-- ════ the questions that come before
+
+lines-to : (form : Form) (lines : List (List ℤ)) → linesRefusal form lines ≤ 6
+unfolding linesRefusal
+lines-to form lines =
+    chain-to _ _ 6 (test-to 2 (all (isWhole form) lines) 6 (omega arith))
+    (chain-to _ _ 6 (test-to 3 (isOneBFirst lines) 6 (omega arith))
+    (chain-to _ _ 6 (test-to 4 (all isInRange lines) 6 (omega arith))
+    (chain-to _ _ 6 (test-to 5 (isNotTooLong lines) 6 (omega arith)) (test-to 6 (isNoTripleTwice lines) 6 (omega arith)))))
+
+-- no question of a direction has a number above 10
+numbers-at-most : (numbers : List ℤ) → numbersRefusal numbers ≤ 10
+unfolding numbersRefusal
+numbers-at-most numbers = chain-to _ _ 10 (test-to 9 (within 1 32 (length numbers)) 10 (omega arith)) (test-to 10 (all isDirectionWord numbers) 10 (omega arith))
+
+-- those of proposed steps have 16 or more
+steps-from : (book : Book) (direction : List ℕ) (k : Key) (steps : List Step) → (stepsRefusal book direction k steps ≡ 0) ⊎ (16 ≤ stepsRefusal book direction k steps)
+unfolding stepsRefusal
+steps-from book direction k [] = asks (all (λ bit. bit) (k .covered))
+  where
+    asks : (t : Bool) → (19 unless t ≡ 0) ⊎ (16 ≤ (19 unless t))
+    asks true = inl refl
+    asks false = inr (omega arith)
+steps-from book direction k (s ∷ ss) =
+    asks (fits book direction s) (isFree s 1 (k .covered)) (leb (jump (k .r) s) (book .limit)) (stepsRefusal book direction (nextKey book k s) ss) (steps-from book direction (nextKey book k s) ss)
+  where
+    asks : (f g j : Bool) (m : ℕ) → (m ≡ 0) ⊎ (16 ≤ m) → ((16 unless f orelse 17 unless g orelse 18 unless j orelse m) ≡ 0) ⊎ (16 ≤ (16 unless f orelse 17 unless g orelse 18 unless j orelse m))
+    asks true true true m r = r
+    asks true true false m r = inr (omega arith)
+    asks true false j m r = inr (omega arith)
+    asks false g j m r = inr (omega arith)
+
+-- no question before the search has a number above 12
+before-to : (loaded : List ℤ) (direction : List ℕ) (width : ℤ) (lent : Lent) → beforeSearch loaded direction width lent ≤ 12
+unfolding beforeSearch bookRefusal directionRefusal
+before-to loaded direction width lent =
+    let book-to : linesRefusal InList (loadedLines loaded) ≤ 12 = (let h = lines-to InList (loadedLines loaded) in omega arith) in
+    let direction-to-12 : numbersRefusal (map pos direction) ≤ 12 = (let h = numbers-at-most (map pos direction) in omega arith) in
+    chain-to _ _ 12 book-to
+    (chain-to _ _ 12 direction-to-12
+    (chain-to _ _ 12 (test-to 11 (leZ (negsuc 0) width) 12 (omega arith))
+    (test-to 12 (leb (wordCount direction) (lent .steps) && leb (8 * wordCount direction) (lent .words)) 12 (omega arith))))
+
+-- there are at most 32 numbers where 9 passes
+pub numbers-to : (numbers : List ℤ) → numbersRefusal numbers ≡ 0 → length numbers ≤ 32
+unfolding numbersRefusal
+numbers-to numbers e =
+    let t = test-passes 8 (within 1 32 (length numbers)) (first-passes (9 unless within 1 32 (length numbers)) _ e) in
+    leb-true _ _ (both (leb 1 (length numbers)) _ t .1)
+
+-- a direction that 9 passes has at most 32 words
+pub direction-to : (direction : List ℕ) → directionRefusal direction ≡ 0 → wordCount direction ≤ 32
+unfolding directionRefusal wordCount
+direction-to direction e = omega (arith, numbers-to (map pos direction) e, length-map direction pos)
+
+-- 13, 14 and 15 by what is asked: pruning is off, the store holds the states, the last set is empty
+abbrev after : Bool → Bool → Bool → ℕ
+after off fits empty = 13 unless fits orelse 14 unless (not off || not empty) orelse 15 unless not empty
+
+-- these are none or 13 to 15
+after-from : (off fits empty : Bool) → after off fits empty ≤ 12 → after off fits empty ≡ 0
+after-from off false empty h = absurd (omega arith)
+after-from true true true h = absurd (omega arith)
+after-from true true false h = refl
+after-from false true true h = absurd (omega arith)
+after-from false true false h = refl
+
+-- two searches that enter the same states and have the same answer differ at most in 15 for 14
+wide-by : (before : ℕ) (fits₁ fits₂ empty₁ empty₂ : Bool) (o₁ o₂ : Outcome) → (before ≡ 0 → (fits₁ ≡ fits₂) × (empty₁ ≡ empty₂) × (o₁ ≡ o₂))
+    → (reply (before orelse after false fits₁ empty₁) o₁ ≡ reply (before orelse after true fits₂ empty₂) o₂)
+    ⊎ ((reply (before orelse after false fits₁ empty₁) o₁ ≡ refused 15) × (reply (before orelse after true fits₂ empty₂) o₂ ≡ refused 14))
+wide-by (suc k) fits₁ fits₂ empty₁ empty₂ o₁ o₂ same = inl refl
+wide-by zero fits₁ fits₂ empty₁ empty₂ o₁ o₂ same = let e = same refl in rw (e .0, e .1, e .2) (compare fits₂ empty₂ o₂)
+  where
+    compare : (s m : Bool) (o : Outcome) → (reply (after false s m) o ≡ reply (after true s m) o) ⊎ ((reply (after false s m) o ≡ refused 15) × (reply (after true s m) o ≡ refused 14))
+    compare true true o = inr (refl, refl)
+    compare true false o = inl refl
+    compare false m o = inl refl
+
+module _ (loaded : List ℤ) (direction : List ℕ) where
+  abbrev book : Book
+  book = bookOf loaded
+
+  -- ════ scoring: "a proposed list is found valid exactly when the notes say so"
+
+  -- what is scored is a valid derivation, and the score is its score
+  pub scored-valid : (steps : List Step) (z : ℤ) → scoreProposal loaded direction steps ≡ done z → IsDerivation book direction z steps (targetWords book steps)
+  unfolding scoreProposal proposalRefusal
+  scored-valid steps z e =
+      let p : proposalRefusal loaded direction steps ≡ 0 = done-passes (proposalRefusal loaded direction steps) (scoreOf book steps) z e in
+      record {
+        steps-valid = proposal-valid book direction steps .0 (rest-passes (directionRefusal direction) _ (rest-passes (bookRefusal loaded) _ p));
+        steps-score = done-is (proposalRefusal loaded direction steps) (scoreOf book steps) z e;
+        steps-words = refl;
+      }
+
+  -- and every valid derivation is scored, where the book and the direction pass
+  pub valid-scored : bookRefusal loaded ≡ 0 → directionRefusal direction ≡ 0 → (steps : List Step) → isValid book direction steps ≡ true
+      → scoreProposal loaded direction steps ≡ done (scoreOf book steps)
+  unfolding scoreProposal proposalRefusal
+  valid-scored b d steps v = rw (b, d, proposal-valid book direction steps .1 v)
+
+  -- a refusal from 16 on says that it is not valid: the book and the direction passed
+  pub refused-invalid : (steps : List Step) (k : ℕ) → 16 ≤ k → scoreProposal loaded direction steps ≡ refused k → isValid book direction steps ≡ false
+  unfolding scoreProposal proposalRefusal bookRefusal directionRefusal
+  refused-invalid steps k h e =
+      let p : proposalRefusal loaded direction steps ≡ k = refused-is (proposalRefusal loaded direction steps) k (scoreOf book steps) e in
+      let b : bookRefusal loaded ≤ 6 = lines-to InList (loadedLines loaded) in
+      let d : directionRefusal direction ≤ 10 = numbers-at-most (map pos direction) in
+      let s = skip (directionRefusal direction) _ k (λ z. omega arith) (skip (bookRefusal loaded) _ k (λ z. omega arith) p) in
+      is-false (λ v. let z = proposal-valid book direction steps .1 v in omega arith)
+
+  -- and one that is not valid gets such a refusal, where the book and the direction pass
+  pub invalid-refused : bookRefusal loaded ≡ 0 → directionRefusal direction ≡ 0 → (steps : List Step) → isValid book direction steps ≡ false
+      → (k : ℕ) × (16 ≤ k) × (scoreProposal loaded direction steps ≡ refused k)
+  unfolding scoreProposal proposalRefusal
+  invalid-refused b d steps v = rw (b, d) (by (stepsRefusal book direction (start (wordCount direction)) steps) (steps-from book direction (start (wordCount direction)) steps) (λ z. clash (proposal-valid book direction steps .0 z) v))
+    where
+      by : (j : ℕ) → (j ≡ 0) ⊎ (16 ≤ j) → (j ≡ 0 → ⊥) → (k : ℕ) × (16 ≤ k) × (reply j (scoreOf book steps) ≡ refused k)
+      by zero r n = absurd (n refl)
+      by (suc j) (inl z) n = absurd (n z)
+      by (suc j) (inr h) n = (suc j, h, refl)
+
+  -- ════ "No score passes .. 298,240,000 on either side of 0.": neither a state's nor a valid derivation's
+
+  module _ (b : bookRefusal loaded ≡ 0) (d : directionRefusal direction ≡ 0) (width : ℤ) where
+    pub state-bound : (q : Hyp) → List·Memᴰ q (entered book direction width) → Within scoreBound (q .score)
+    state-bound q m =
+        let n = direction-to direction d in
+        let c = covered-to book direction width q m in
+        within-mono (omega arith) (entered-bound book direction width (loaded-ranged loaded b) q m)
+
+    pub derivation-bound : (steps : List Step) → isValid book direction steps ≡ true → Within scoreBound (scoreOf book steps)
+    derivation-bound steps v =
+        let n = direction-to direction d in
+        within-mono (omega arith) (valid-bound book direction width (loaded-ranged loaded b) steps v)
+
+  -- ════ decoding, with any width
+
+  module _ (width : ℤ) (lent : Lent) where
+    -- what holds where an answer is given
+    pub record Answered (a : Outcome) : Type 0 where
+      pub before : beforeSearch loaded direction width lent ≡ 0
+      pub room : length (entered book direction width) ≤ lent .store / 8
+      pub state : Hyp
+      pub found : answer book direction width ≡ some state
+      pub score-is : a .score ≡ state .score
+      pub states-are : a .states ≡ length (entered book direction width)
+
+    some-or-none : (o : Option Hyp) → (o ≡ none) ⊎ ((t : Hyp) × (o ≡ some t))
+    some-or-none none = inl refl
+    some-or-none (some t) = inr (t, refl)
+
+    reached : afterSearch book direction width lent ≡ 0 → isEmpty (lastSet book direction width) ≡ false
+    unfolding afterSearch
+    reached e =
+        not-true (isEmpty (lastSet book direction width))
+        (test-passes 14 (not (isEmpty (lastSet book direction width)))
+        (rest-passes (14 unless (not (isOff width) || not (isEmpty (lastSet book direction width)))) _
+        (rest-passes (13 unless leb (length (entered book direction width)) (lent .store / 8)) _ e)))
+
+    not-both : (l : List Hyp) → isEmpty l ≡ false → l ≡ [] → ⊥
+    not-both [] e z = true≢false e
+    not-both (x ∷ l) e z = let y : isEmpty (x ∷ l) ≡ true = ap isEmpty z in false≢true y
+
+    pub answered : (a : Outcome) → decode loaded direction width lent ≡ done a → Answered a
+    unfolding decode decodeRefusal afterSearch
+    answered a e =
+        let k = decodeRefusal loaded direction width lent in
+        let p : decodeRefusal loaded direction width lent ≡ 0 = done-passes k _ a e in
+        let b = first-passes (beforeSearch loaded direction width lent) _ p in
+        let s = rest-passes (beforeSearch loaded direction width lent) _ p in
+        let is : record { score = answerScore (answer book direction width); states = length (entered book direction width) } ≡ a = done-is k _ a e in
+        let r : length (entered book direction width) ≤ lent .store / 8 = leb-true _ _ (test-passes 12 _ (first-passes (13 unless leb (length (entered book direction width)) (lent .store / 8)) _ s)) in
+        ⊎-elim
+        (λ z. absurd (not-both (lastSet book direction width) (reached s) (answer-none book direction width .0 z)))
+        (λ t. record {
+          before = b;
+          room = r;
+          state = t .0;
+          found = t .1;
+          score-is = ap (λ (o : Outcome). o .score) (sym is) ∙ ap answerScore (t .1);
+          states-are = ap (λ (o : Outcome). o .states) (sym is);
+        })
+        (some-or-none (answer book direction width))
+
+    -- "valid, exact": some valid derivation has the score reported
+    pub decode-derives : (a : Outcome) → decode loaded direction width lent ≡ done a
+        → (steps : List Step) × IsDerivation book direction (a .score) steps (targetWords book steps)
+    decode-derives a e =
+        let r = answered a e in
+        (r .state .steps, subst (λ (z : ℤ). IsDerivation book direction z (r .state .steps) (targetWords book (r .state .steps))) (sym (r .score-is)) (answer-derives book direction width (r .state) (r .found)))
+
+    -- "and the best of the last set": no state of it has a higher score
+    pub decode-last : (a : Outcome) → decode loaded direction width lent ≡ done a → (q : Hyp) → List·Memᴰ q (lastSet book direction width) → q .score ≤ℤ a .score
+    decode-last a e q m =
+        let r = answered a e in
+        subst (λ (z : ℤ). q .score ≤ℤ z) (sym (r .score-is)) (answer-last book direction width (r .state) (r .found) .none-higher q m)
+
+    -- the number of states is that of the states entered
+    pub decode-states : (a : Outcome) → decode loaded direction width lent ≡ done a → a .states ≡ length (entered book direction width)
+    decode-states a e = answered a e .states-are
+
+    -- "No score passes .. 298,240,000 on either side of 0."
+    pub decode-bound : (a : Outcome) → decode loaded direction width lent ≡ done a → Within scoreBound (a .score)
+    unfolding beforeSearch
+    decode-bound a e =
+        let r = answered a e in
+        let d = decode-derives a e in
+        let b = first-passes (bookRefusal loaded) _ (r .before) in
+        let n = first-passes (directionRefusal direction) _ (rest-passes (bookRefusal loaded) _ (r .before)) in
+        subst (Within scoreBound) (d .1 .steps-score) (derivation-bound b n width (d .0) (d .1 .steps-valid))
+
+    -- "13 only when the store is too small for the states entered", and always then
+    pub decode-full : beforeSearch loaded direction width lent ≡ 0 → (decode loaded direction width lent ≡ refused 13) ↔ (lent .store / 8 < length (entered book direction width))
+    unfolding decode decodeRefusal afterSearch
+    decode-full b = (
+      λ e. by-test (leb (length (entered book direction width)) (lent .store / 8))
+          (λ t. absurd (later t (refused-is (decodeRefusal loaded direction width lent) 13 _ e)))
+          (λ f. leb-false _ _ f),
+      λ h. reply-refused (decodeRefusal loaded direction width lent) 12 _ (rw (b, lt-leb _ _ h)),
+    )
+      where
+        later : leb (length (entered book direction width)) (lent .store / 8) ≡ true → decodeRefusal loaded direction width lent ≡ 13 → ⊥
+        later t e = last-two (isOff width) (isEmpty (lastSet book direction width)) (rw (b, t) at e)
+          where
+            last-two : (o m : Bool) → 14 unless (not o || not m) orelse 15 unless not m ≡ 13 → ⊥
+            last-two true true h = omega arith
+            last-two true false h = omega arith
+            last-two false true h = omega arith
+            last-two false false h = omega arith
+
+    -- a store that holds the states entered never gives 13
+    pub never-full : length (entered book direction width) ≤ lent .store / 8 → decode loaded direction width lent ≡ refused 13 → ⊥
+    unfolding decode decodeRefusal
+    never-full h e =
+        let k = refused-is (decodeRefusal loaded direction width lent) 13 _ e in
+        by-zero (beforeSearch loaded direction width lent) refl k
+      where
+        by-zero : (j : ℕ) → beforeSearch loaded direction width lent ≡ j → j orelse afterSearch book direction width lent ≡ 13 → ⊥
+        by-zero zero z k = let l = decode-full z .0 e in omega arith
+        by-zero (suc j) z k = let t = before-to loaded direction width lent in omega arith
+
+    -- a refusal up to 12 is that of a question before the search ..
+    pub refused-early : (k : ℕ) → k ≤ 12 → decode loaded direction width lent ≡ refused k → beforeSearch loaded direction width lent ≡ k
+    unfolding decode decodeRefusal afterSearch
+    refused-early k h e =
+        by (beforeSearch loaded direction width lent) _ (after-from (isOff width) (leb (length (entered book direction width)) (lent .store / 8)) (isEmpty (lastSet book direction width)))
+        (refused-is (decodeRefusal loaded direction width lent) k _ e)
+      where
+        by : (j m : ℕ) → (m ≤ 12 → m ≡ 0) → j orelse m ≡ k → j ≡ k
+        by zero m f p = sym (f (omega arith)) ∙ p
+        by (suc j) m f p = p
+
+    -- .. and one from 13 on comes after it
+    pub refused-late : (k : ℕ) → 12 < k → decode loaded direction width lent ≡ refused k → beforeSearch loaded direction width lent ≡ 0
+    unfolding decode decodeRefusal
+    refused-late k h e = by (beforeSearch loaded direction width lent) (before-to loaded direction width lent) (refused-is (decodeRefusal loaded direction width lent) k _ e)
+      where
+        by : (j : ℕ) → j ≤ 12 → j orelse afterSearch book direction width lent ≡ k → j ≡ 0
+        by zero g p = refl
+        by (suc j) g p = absurd (omega arith)
+
+    -- where the store holds the states entered, there is an answer, or 14, or with a width 15
+    pub answer-or-none : beforeSearch loaded direction width lent ≡ 0 → length (entered book direction width) ≤ lent .store / 8
+        → ((a : Outcome) × (decode loaded direction width lent ≡ done a)) ⊎ (decode loaded direction width lent ≡ refused (cond (isOff width) 14 15))
+    unfolding decode decodeRefusal afterSearch
+    answer-or-none b h = rw (b, le-leb _ _ h) (by (isOff width) (isEmpty (lastSet book direction width)) _)
+      where
+        by : (o m : Bool) (a : Outcome) → ((a′ : Outcome) × (reply (14 unless (not o || not m) orelse 15 unless not m) a ≡ done a′)) ⊎ (reply (14 unless (not o || not m) orelse 15 unless not m) a ≡ refused (cond o 14 15))
+        by true true a = inr refl
+        by false true a = inr refl
+        by true false a = inl (a, refl)
+        by false false a = inl (a, refl)
+
+    -- "With a width, is set n not empty? No: 15."
+    pub decode-emptied : decode loaded direction width lent ≡ refused 15 → lastSet book direction width ≡ []
+    unfolding decode decodeRefusal afterSearch
+    decode-emptied e =
+        let k = skip (beforeSearch loaded direction width lent) _ 15 (λ z. let t = before-to loaded direction width lent in omega arith) (refused-is (decodeRefusal loaded direction width lent) 15 _ e) in
+        by (isOff width) (leb (length (entered book direction width)) (lent .store / 8)) (lastSet book direction width) k
+      where
+        by : (o s : Bool) (l : List Hyp) → after o s (isEmpty l) ≡ 15 → l ≡ []
+        by o s [] p = refl
+        by true true (q ∷ l) p = absurd (omega arith)
+        by false true (q ∷ l) p = absurd (omega arith)
+        by o false (q ∷ l) p = absurd (omega arith)
+
+  -- ════ decoding with pruning off
+
+  module _ (lent : Lent) where
+    -- "no valid derivation scores higher", of however many steps
+    pub decode-best : (a : Outcome) → decode loaded direction (negsuc 0) lent ≡ done a → (steps : List Step) → isValid book direction steps ≡ true → scoreOf book steps ≤ℤ a .score
+    decode-best a e steps v =
+        let r = answered (negsuc 0) lent a e in
+        subst (λ (z : ℤ). scoreOf book steps ≤ℤ z) (sym (r .score-is)) (answer-best book direction (r .state) (r .found) steps v)
+
+    empty-is : (l : List Hyp) → isEmpty l ≡ true → l ≡ []
+    empty-is [] e = refl
+    empty-is (x ∷ l) e = absurd (false≢true e)
+
+    -- "14 means that no valid derivation exists"
+    pub decode-none : decode loaded direction (negsuc 0) lent ≡ refused 14 → (steps : List Step) → isValid book direction steps ≡ true → ⊥
+    unfolding decode decodeRefusal afterSearch
+    decode-none e =
+        let k = refused-is (decodeRefusal loaded direction (negsuc 0) lent) 14 _ e in
+        let a = skip (beforeSearch loaded direction (negsuc 0) lent) _ 14 (λ z. let t = before-to loaded direction (negsuc 0) lent in omega arith) k in
+        let c = skip (13 unless leb (length (entered book direction (negsuc 0))) (lent .store / 8)) _ 14 (λ z. let t = test-to 13 (leb (length (entered book direction (negsuc 0))) (lent .store / 8)) 13 (omega arith) in omega arith) a in
+        none-valid book direction (answer-none book direction (negsuc 0) .1 (empty-is (lastSet book direction (negsuc 0)) (was-empty (isEmpty (lastSet book direction (negsuc 0))) c)))
+      where
+        was-empty : (m : Bool) → 14 unless not m orelse 15 unless not m ≡ 14 → m ≡ true
+        was-empty true h = refl
+        was-empty false h = absurd (omega arith)
+
+    -- and where no valid derivation exists, 14 is given, once the questions before it pass
+    pub none-decode : beforeSearch loaded direction (negsuc 0) lent ≡ 0 → length (entered book direction (negsuc 0)) ≤ lent .store / 8
+        → ((steps : List Step) → isValid book direction steps ≡ true → ⊥) → decode loaded direction (negsuc 0) lent ≡ refused 14
+    unfolding decode decodeRefusal afterSearch
+    none-decode b h none-is =
+        reply-refused (decodeRefusal loaded direction (negsuc 0) lent) 13 _ (rw (b, le-leb _ _ h, last-is-empty))
+      where
+        last-is-empty : isEmpty (lastSet book direction (negsuc 0)) ≡ true
+        last-is-empty = go (lastSet book direction (negsuc 0)) (λ q m. none-is (q .steps) (last-valid book direction (negsuc 0) q m))
+          where
+            go : (l : List Hyp) → ((q : Hyp) → List·Memᴰ q l → ⊥) → isEmpty l ≡ true
+            go [] f = refl
+            go (q ∷ l) f = absurd (f q (List·Memᴰ·head refl))
+
+  -- ════ decoding with a width
+
+  -- "Giving 14 when pruning emptied the last set" is a trap: with a width 14 is never given
+  pub width-never-14 : (β : ℕ) (lent : Lent) → decode loaded direction (pos β) lent ≡ refused 14 → ⊥
+  unfolding decode decodeRefusal afterSearch
+  width-never-14 β lent e =
+      let k = refused-is (decodeRefusal loaded direction (pos β) lent) 14 _ e in
+      let t = before-to loaded direction (pos β) lent in
+      let a = skip (beforeSearch loaded direction (pos β) lent) _ 14 (λ z. omega arith) k in
+      two (leb (length (entered book direction (pos β))) (lent .store / 8)) (isEmpty (lastSet book direction (pos β))) a
+    where
+      two : (s m : Bool) → 13 unless s orelse 15 unless not m ≡ 14 → ⊥
+      two true true h = omega arith
+      two true false h = omega arith
+      two false m h = omega arith
+
+  -- "a width of 596,480,000, which, but for 15 in place of 14, answers as −1 does": it, and every larger one
+  pub wide-width : (β : ℕ) (lent : Lent) → spreadBound ≤ β
+      → (decode loaded direction (pos β) lent ≡ decode loaded direction (negsuc 0) lent)
+      ⊎ ((decode loaded direction (pos β) lent ≡ refused 15) × (decode loaded direction (negsuc 0) lent ≡ refused 14))
+  unfolding decode decodeRefusal beforeSearch afterSearch
+  wide-width β lent wide =
+      wide-by (beforeSearch loaded direction (negsuc 0) lent)
+      (leb (length (entered book direction (pos β))) (lent .store / 8)) (leb (length (entered book direction (negsuc 0))) (lent .store / 8))
+      (isEmpty (lastSet book direction (pos β))) (isEmpty (lastSet book direction (negsuc 0)))
+      (searchOutcome book direction (pos β)) (searchOutcome book direction (negsuc 0))
+      (λ b.
+      let R = loaded-ranged loaded (first-passes (bookRefusal loaded) _ b) in
+      let n = direction-to direction (first-passes (directionRefusal direction) _ (rest-passes (bookRefusal loaded) _ b)) in
+      let same : entered book direction (pos β) ≡ entered book direction (negsuc 0) = wide-entered book direction R n β wide in (
+        ap (λ (l : List Hyp). leb (length l) (lent .store / 8)) same,
+        ap isEmpty (wide-last book direction R n β wide),
+        λ i. record { score = answerScore (wide-answer book direction R n β wide i); states = length (same i) },
+      ))

@@ -1,0 +1,189 @@
+-- The twelve inputs that document 01 marks to be proved (its "marked drawers"), its printed example, and four inputs beyond
+-- the twelve, each computed from the definitions.
+use Prim.Native.Nat.{ℕ, _*_}
+use Prim.Native.String.{String, [] as emptyText, _∷_ as _then_}
+use Prim.Native.Char.{code}
+use mathlib.Core.Path.{_≡_, refl}
+use mathlib.Core.Bool.{Bool, true, false, _&&_}
+use mathlib.Core.List.{List, [], _∷_, _++_}
+use mathlib.Core.Option.{Option, none, some}
+use lib.Dec.{eqb}
+use lib.IntN.{ℤ, pos, negℤ}
+use lib.ListN.{set}
+use Rattle.laws.specs.Integers.{eqℤ}
+use Rattle.laws.specs.Lists.{all, eqList}
+use Rattle.meaning.specs.Book.{loadedOf, bookOf}
+use Rattle.meaning.specs.Direction.{wordCount, directionOf}
+use Rattle.meaning.specs.Derivation.{IsDerivation, isValid, scoreOf}
+use Rattle.meaning.specs.State.{Hyp}
+use Rattle.meaning.specs.Search.{answer}
+use Rattle.meaning.specs.Reply.{Reply, refused, done, Lent, Outcome, decode, scoreProposal}
+use Rattle.meaning.specs.Render.{printedAnswer, inputRefusal, renderDecode, Renders}
+use Rattle.meaning.specs.declared.Step.{Step}
+use Rattle.meaning.proofs.Computing.{computing}
+
+-- ════ the inputs
+
+unfoldable pub bytes : String → List ℕ
+bytes emptyText = []
+bytes (c then s) = code c ∷ bytes s
+
+abbrev pub lines1to3 : List ℕ
+lines1to3 = bytes "B,2,-10,-500\n" ++ bytes "P,1,1,11,101,-20\n" ++ bytes "P,1,1,12,102,-30\n"
+
+abbrev pub line4 : List ℕ
+line4 = bytes "P,2,2,11,12,102,101,-70\n"
+
+abbrev pub lines5to8 : List ℕ
+lines5to8 = bytes "T,0,0,101,-40\n" ++ bytes "T,0,101,102,-60\n" ++ bytes "T,0,0,102,-15\n" ++ bytes "T,0,102,101,-25\n"
+
+-- document 01's book
+unfoldable pub bookText : List ℕ
+bookText = lines1to3 ++ line4 ++ lines5to8
+
+-- the loaded book with limit d; "short" is without its fourth line
+unfoldable pub book : ℕ → List ℤ
+book d = set (loadedOf bookText) 1 (pos d)
+
+unfoldable pub short : ℕ → List ℤ
+short d = set (loadedOf (lines1to3 ++ lines5to8)) 1 (pos d)
+
+abbrev pub direction : List ℕ
+direction = 11 ∷ 12 ∷ []
+
+abbrev pub minus : ℕ → ℤ
+minus n = negℤ (pos n)
+
+-- pruning off
+abbrev pub off : ℤ
+off = minus 1
+
+abbrev pub step : ℕ → ℕ → ℕ → Step
+step first last entry = record { first = first; last = last; entry = entry }
+
+-- ════ the rows
+
+pub data Input : Type 0 where
+  -- a loaded book, a direction, a width and how many states the store holds
+  decoding : List ℤ → List ℕ → ℤ → ℕ → Input
+  -- a loaded book, a direction and a proposed list
+  scoring : List ℤ → List ℕ → List Step → Input
+
+pub data Says : Type 0 where
+  refuses : ℕ → Says
+  scores : ℤ → Says
+  scoresStates : ℤ → ℕ → Says
+  scoresSteps : ℤ → List Step → Says
+
+pub record Row : Type 0 where
+  pub letter : String
+  pub input : Input
+  pub says : Says
+
+abbrev pub row : String → Input → Says → Row
+row letter input says = record { letter = letter; input = input; says = says }
+
+-- ════ a row agrees with the definitions
+
+abbrev pub eqStep : Step → Step → Bool
+eqStep p q = eqb (p .first) (q .first) && eqb (p .last) (q .last) && eqb (p .entry) (q .entry)
+
+abbrev pub answeredAs : Outcome → List Step → Says → Bool
+answeredAs a steps (refuses k) = false
+answeredAs a steps (scores z) = eqℤ (a .score) z
+answeredAs a steps (scoresStates z n) = eqℤ (a .score) z && eqb (a .states) n
+answeredAs a steps (scoresSteps z want) = eqℤ (a .score) z && eqList eqStep steps want
+
+abbrev pub refusedAs : ℕ → Says → Bool
+refusedAs k (refuses m) = eqb k m
+refusedAs k (scores z) = false
+refusedAs k (scoresStates z n) = false
+refusedAs k (scoresSteps z want) = false
+
+-- the steps that the search itself arrives at
+abbrev pub answerSteps : Option Hyp → List Step
+answerSteps none = []
+answerSteps (some q) = q .steps
+
+-- an answer's steps are also held to be a valid derivation of its score
+abbrev pub decodedAs : List ℤ → List ℕ → List Step → Reply Outcome → Says → Bool
+decodedAs loaded words steps (refused k) says = refusedAs k says
+decodedAs loaded words steps (done a) says =
+    answeredAs a steps says && isValid (bookOf loaded) words steps && eqℤ (scoreOf (bookOf loaded) steps) (a .score)
+
+abbrev pub scoredAs : Reply ℤ → Says → Bool
+scoredAs (refused k) says = refusedAs k says
+scoredAs (done z) says = answeredAs (record { score = z; states = 0 }) [] says
+
+-- lists long enough for these words, and a store of this many states
+abbrev pub lent : List ℕ → ℕ → Lent
+lent words states = record { steps = wordCount words; words = 8 * wordCount words; store = 8 * states }
+
+abbrev pub answersAs : Input → Says → Bool
+answersAs (decoding loaded words width states) says =
+    decodedAs loaded words (answerSteps (answer (bookOf loaded) words width)) (decode loaded words width (lent words states)) says
+answersAs (scoring loaded words steps) says = scoredAs (scoreProposal loaded words steps) says
+
+abbrev pub agrees : Row → Bool
+agrees r = answersAs (r .input) (r .says)
+
+-- ════ the table
+
+unfoldable pub drawers : List Row
+drawers =
+    row "a" (decoding (book 2) direction off 6) (scores (minus 110))
+    ∷ row "b" (decoding (book 2) direction off 5) (refuses 13)
+    ∷ row "c" (decoding (book 0) direction off 512) (scoresStates (minus 110) 4)
+    ∷ row "d" (decoding (short 2) direction off 512) (scoresSteps (minus 120) (step 2 2 2 ∷ step 1 1 1 ∷ []))
+    ∷ row "e" (decoding (short 1) direction off 512) (scoresSteps (minus 150) (step 1 1 1 ∷ step 2 2 2 ∷ []))
+    ∷ row "f" (decoding (short 1) direction (pos 0) 512) (refuses 15)
+    ∷ row "g" (decoding (short 1) direction (pos 5) 512) (scores (minus 150))
+    ∷ row "h" (decoding (book 2) direction (pos 0) 512) (scoresStates (minus 110) 5)
+    ∷ row "i" (decoding (book 2) (11 ∷ 13 ∷ []) off 512) (refuses 14)
+    ∷ row "j" (decoding (book 2) [] off 512) (refuses 9)
+    ∷ row "k" (decoding (book 2) direction (minus 2) 512) (refuses 11)
+    ∷ row "l" (scoring (book 2) direction []) (refuses 19)
+    ∷ []
+
+pub drawers-agree : all agrees drawers ≡ true
+unfolding computing drawers bytes bookText book short
+drawers-agree = refl
+
+-- ════ the printed example, from the two texts
+
+input-passes : inputRefusal bookText (bytes "11,12\n") ≡ 0
+unfolding computing bytes bookText
+input-passes = refl
+
+input-decodes : renderDecode bookText (bytes "11,12\n") ≡ done (record { score = minus 110; states = 6 })
+unfolding computing bytes bookText
+input-decodes = refl
+
+input-derives : IsDerivation (bookOf (loadedOf bookText)) (directionOf (bytes "11,12\n")) (minus 110) (step 1 2 3 ∷ []) (102 ∷ 101 ∷ [])
+unfolding computing bytes bookText
+input-derives = record { steps-valid = refl; steps-score = refl; steps-words = refl }
+
+answer-prints : bytes "A,-110,1,2,6\nS,1,2,3\nW,102,101\n" ≡ printedAnswer (record { score = minus 110; states = 6 }) (step 1 2 3 ∷ []) (102 ∷ 101 ∷ [])
+unfolding computing bytes
+answer-prints = refl
+
+pub example-prints : Renders bookText (bytes "11,12\n") (bytes "A,-110,1,2,6\nS,1,2,3\nW,102,101\n")
+unfolding Renders
+example-prints = rw (input-passes, input-decodes) (step 1 2 3 ∷ [], 102 ∷ 101 ∷ [], input-derives, answer-prints)
+
+-- ════ beyond the twelve
+
+unfoldable pub more : List Row
+more =
+    -- three target words in a row: an old word kept in the wrong slot would show
+    row "three words" (decoding (book 2) (11 ∷ 12 ∷ 11 ∷ []) off 512) (scoresStates (minus 630) 14)
+    -- an unseen triple, by decoding and by scoring: none of the twelve scores one
+    ∷ row "unseen, decoded" (decoding (book 2) (11 ∷ 11 ∷ []) off 512) (scores (minus 580))
+    ∷ row "unseen, scored" (scoring (book 2) (11 ∷ 11 ∷ []) (step 1 1 1 ∷ step 2 2 1 ∷ [])) (scores (minus 580))
+    -- a first jump counts: −30 −15 −10 and −20 −25 −20
+    ∷ row "first jump" (scoring (book 2) direction (step 2 2 2 ∷ step 1 1 1 ∷ [])) (scores (minus 120))
+    ∷ []
+
+pub more-agree : all agrees more ≡ true
+unfolding computing more bytes bookText book
+more-agree = refl

@@ -1,0 +1,248 @@
+-- Broken texts, loaded books, directions and proposals, and the refusal that each gets; 0 where nothing is wrong.
+use Prim.Native.Nat.{ℕ}
+use mathlib.Core.Path.{_≡_, refl}
+use mathlib.Core.Bool.{Bool, true}
+use mathlib.Core.List.{List, [], _∷_, _++_}
+use lib.Dec.{eqb}
+use lib.IntN.{ℤ, pos, negsuc}
+use lib.ListN.{replicate, take, length}
+use Rattle.laws.specs.Lists.{all}
+use Rattle.meaning.specs.Book.{InText, linesRefusal, bookRefusal, readRefusal, targetPart, partOf}
+use Rattle.meaning.specs.Direction.{directionRefusal, readDirectionRefusal}
+use Rattle.meaning.specs.Reply.{proposalRefusal, beforeSearch}
+use Rattle.meaning.specs.declared.Step.{Step}
+use Rattle.meaning.proofs.Computing.{computing}
+use Rattle.meaning.proofs.Drawers.{bytes, bookText, book, direction, off, minus, step}
+
+-- a refusal, and what it should be
+abbrev pub Row : Type 0
+Row = ℕ × ℕ
+
+abbrev pub agrees : Row → Bool
+agrees row = eqb (row .0) (row .1)
+
+-- reading a book, into 1,000 places
+abbrev pub reads : List ℕ → ℕ
+reads text = readRefusal text 1000
+
+abbrev pub B : List ℕ
+B = bytes "B,2,-10,-500\n"
+
+unfoldable pub texts : List Row
+texts =
+    (reads bookText, 0)
+    ∷ (readRefusal bookText 44, 0)
+    ∷ (readRefusal bookText 43, 7)
+    ∷ (reads B, 0)
+    -- 1: no line; no byte 10 at the end; an empty line; no number; an empty number; another letter; two letters
+    ∷ (reads [], 1)
+    ∷ (reads (bytes "B,2,-10,-500"), 1)
+    ∷ (reads (B ++ bytes "\n"), 1)
+    ∷ (reads (bytes "B\n"), 1)
+    ∷ (reads (bytes "B,2,,-500\n"), 1)
+    ∷ (reads (bytes "B,2,-10,-500,\n"), 1)
+    ∷ (reads (bytes "C,2,-10,-500\n"), 1)
+    ∷ (reads (bytes "BB,2,-10,-500\n"), 1)
+    -- 1: a needless zero; minus zero; a minus alone; a plus; 8 digits; a space; byte 13
+    ∷ (reads (bytes "B,02,-10,-500\n"), 1)
+    ∷ (reads (bytes "B,2,-0,-500\n"), 1)
+    ∷ (reads (bytes "B,2,-01,-500\n"), 1)
+    ∷ (reads (bytes "B,2,00,-500\n"), 1)
+    ∷ (reads (bytes "B,2,-,-500\n"), 1)
+    ∷ (reads (bytes "B,+2,-10,-500\n"), 1)
+    ∷ (reads (bytes "B,2,-10,-10000000\n"), 1)
+    ∷ (reads (bytes "B,2,-10,9999999\n"), 4)
+    ∷ (reads (bytes "B,2, -10,-500\n"), 1)
+    ∷ (reads (bytes "B,2,-10,-500\r\n"), 1)
+    -- 2: too few fields; too many; a = 0; b = 9; fewer words than a says; a T line of 3. Each before 3 and 4
+    ∷ (reads (bytes "B,1\n"), 2)
+    ∷ (reads (bytes "B,2,-10\n"), 2)
+    -- two lines that load as one good B line
+    ∷ (reads (bytes "B,2\n" ++ bytes "B,5\n"), 2)
+    ∷ (reads (bytes "B,2,-10,-500,0\n"), 2)
+    ∷ (reads (B ++ bytes "P,1\n"), 2)
+    ∷ (reads (B ++ bytes "P,0,1,101,-20\n"), 2)
+    ∷ (reads (B ++ bytes "P,1,9,11,1,2,3,4,5,6,7,8,9,-20\n"), 2)
+    ∷ (reads (B ++ bytes "P,2,1,11,101,-20\n"), 2)
+    ∷ (reads (bytes "T,0,0,-40\n" ++ B), 2)
+    -- 3: no B line first; a second one. Each before 4
+    ∷ (reads (bytes "P,1,1,11,101,-20\n" ++ B), 3)
+    ∷ (reads (B ++ bytes "P,1,1,0,101,-20\n" ++ B), 3)
+    -- 4
+    ∷ (reads (bytes "B,33,-10,-500\n"), 4)
+    ∷ (reads (bytes "B,-1,-10,-500\n"), 4)
+    ∷ (reads (bytes "B,2,10001,-500\n"), 4)
+    ∷ (reads (bytes "B,2,-10,-1000001\n"), 4)
+    ∷ (reads (bytes "B,32,-10000,-1000000\n" ++ bytes "P,1,1,65535,1,1000000\n"), 0)
+    ∷ (reads (bytes "B,32,10000,1000000\n" ++ bytes "P,1,1,1,65535,-1000000\n"), 0)
+    ∷ (reads (bytes "B,2,-10001,-500\n"), 4)
+    ∷ (reads (bytes "B,2,-10,1000001\n"), 4)
+    ∷ (reads (B ++ bytes "P,1,1,65536,101,-20\n"), 4)
+    ∷ (reads (B ++ bytes "P,1,1,11,101,-1000001\n"), 4)
+    ∷ (reads (B ++ bytes "T,-1,0,101,-40\n"), 4)
+    ∷ (reads (B ++ bytes "T,0,65536,101,-40\n"), 4)
+    ∷ (reads (B ++ bytes "T,0,0,101,1000001\n"), 4)
+    ∷ (reads (B ++ bytes "T,0,0,101,1000000\n"), 0)
+    ∷ (reads (B ++ bytes "P,1,1,11,0,-20\n"), 4)
+    ∷ (reads (B ++ bytes "P,1,1,11,101,1000001\n"), 4)
+    ∷ (reads (B ++ bytes "T,0,0,0,-40\n"), 4)
+    ∷ (reads (B ++ bytes "T,0,65535,65535,-40\n"), 0)
+    -- 6: whatever the score, also the same one; equal P lines are allowed
+    ∷ (reads (bookText ++ bytes "T,0,101,102,-60\n"), 6)
+    ∷ (reads (bookText ++ bytes "P,1,1,11,101,-20\n"), 0)
+    ∷ (reads (bookText ++ bytes "T,0,101,102,-61\n"), 6)
+    ∷ []
+
+pub texts-agree : all agrees texts ≡ true
+unfolding computing texts bytes bookText
+texts-agree = refl
+
+-- ════ loaded books
+
+abbrev pub bLine : List ℤ
+bLine = pos 1 ∷ pos 2 ∷ negsuc 9 ∷ negsuc 499 ∷ []
+
+abbrev pub pLine : List ℤ
+pLine = pos 2 ∷ pos 1 ∷ pos 1 ∷ pos 11 ∷ pos 101 ∷ negsuc 19 ∷ []
+
+abbrev pub tLine : List ℤ
+tLine = pos 3 ∷ pos 0 ∷ pos 0 ∷ pos 101 ∷ negsuc 39 ∷ []
+
+unfoldable pub loaded : List Row
+loaded =
+    (bookRefusal (book 2), 0)
+    ∷ (bookRefusal (book 33), 4)
+    ∷ (bookRefusal (bLine ++ pLine ++ tLine), 0)
+    -- an empty list has no line that is not whole, and no first line
+    ∷ (bookRefusal [], 3)
+    -- 2: cut off; an unknown kind; a number behind the last line; a out of range, also as a negative number
+    ∷ (bookRefusal (take 3 bLine), 2)
+    ∷ (bookRefusal (bLine ++ pLine ++ take 4 tLine), 2)
+    ∷ (bookRefusal (bLine ++ take 1 pLine), 2)
+    ∷ (bookRefusal (pos 4 ∷ bLine), 2)
+    ∷ (bookRefusal (negsuc 0 ∷ []), 2)
+    ∷ (bookRefusal (bLine ++ (pos 0 ∷ [])), 2)
+    ∷ (bookRefusal (bLine ++ (pos 2 ∷ pos 9 ∷ pLine ++ pLine)), 2)
+    ∷ (bookRefusal (bLine ++ (pos 2 ∷ negsuc 0 ∷ pos 1 ∷ pLine)), 2)
+    ∷ (bookRefusal (pLine ++ bLine), 3)
+    ∷ (bookRefusal (bLine ++ tLine ++ bLine), 3)
+    ∷ (bookRefusal (bLine ++ tLine ++ pLine ++ tLine), 6)
+    ∷ []
+
+pub loaded-agree : all agrees loaded ≡ true
+unfolding computing loaded bytes bookText book
+loaded-agree = refl
+
+-- 5: one line too many of either kind; equal T lines are not asked about before
+unfoldable pub many : List Row
+many =
+    (linesRefusal InText (bLine ∷ replicate 4096 pLine), 0)
+    ∷ (linesRefusal InText (bLine ∷ replicate 4097 pLine), 5)
+    ∷ (linesRefusal InText (bLine ∷ replicate 8193 tLine), 5)
+    ∷ []
+
+pub many-agree : all agrees many ≡ true
+unfolding computing many
+many-agree = refl
+
+-- ════ directions, into 32 places
+
+abbrev pub readsDirection : List ℕ → ℕ
+readsDirection text = readDirectionRefusal text 32
+
+unfoldable pub directions : List Row
+directions =
+    (readsDirection (bytes "11,12\n"), 0)
+    ∷ (readDirectionRefusal (bytes "11,12\n") 1, 7)
+    -- 8: no line; a line of no number; no byte 10; two lines; an empty number; a letter
+    ∷ (readsDirection [], 8)
+    ∷ (readsDirection (bytes "\n"), 8)
+    ∷ (readsDirection (bytes "11,12"), 8)
+    ∷ (readsDirection (bytes "11\n12\n"), 8)
+    ∷ (readsDirection (bytes "11\n\n"), 8)
+    ∷ (readsDirection (bytes "11,,12\n"), 8)
+    ∷ (readsDirection (bytes "B,11\n"), 8)
+    -- 10, and 9 before it
+    ∷ (readsDirection (bytes "11,0\n"), 10)
+    ∷ (readsDirection (bytes "-11\n"), 10)
+    ∷ (readsDirection (bytes "65535\n"), 0)
+    ∷ (readsDirection (bytes "65536\n"), 10)
+    ∷ (directionRefusal (replicate 32 11), 0)
+    ∷ (directionRefusal (replicate 33 0), 9)
+    ∷ (directionRefusal [], 9)
+    ∷ (directionRefusal (11 ∷ 0 ∷ []), 10)
+    ∷ []
+
+pub directions-agree : all agrees directions ≡ true
+unfolding computing directions bytes
+directions-agree = refl
+
+-- ════ proposed lists, for the direction 11,12
+
+abbrev pub proposes : ℕ → List Step → ℕ
+proposes d steps = proposalRefusal (book d) (11 ∷ 12 ∷ []) steps
+
+unfoldable pub proposals : List Row
+proposals =
+    (proposes 2 (step 1 2 3 ∷ []), 0)
+    ∷ (proposes 2 (step 2 2 2 ∷ step 1 1 1 ∷ []), 0)
+    -- 16: no such entry; other words; a place too long, too short, turned round, outside
+    ∷ (proposes 2 (step 1 1 0 ∷ []), 16)
+    ∷ (proposes 2 (step 1 1 4 ∷ []), 16)
+    ∷ (proposes 2 (step 2 2 1 ∷ []), 16)
+    ∷ (proposes 2 (step 1 2 1 ∷ []), 16)
+    ∷ (proposes 2 (step 1 1 3 ∷ []), 16)
+    ∷ (proposes 2 (step 2 1 3 ∷ []), 16)
+    ∷ (proposes 2 (step 0 1 3 ∷ []), 16)
+    ∷ (proposes 2 (step 2 3 2 ∷ []), 16)
+    -- 17 comes at the second step, and 18 at the first, before the second step's 16
+    ∷ (proposes 2 (step 1 1 1 ∷ step 1 2 3 ∷ []), 17)
+    ∷ (proposes 1 (step 2 2 2 ∷ step 1 1 1 ∷ []), 18)
+    ∷ (proposes 0 (step 2 2 2 ∷ step 1 1 9 ∷ []), 18)
+    ∷ (proposes 2 (step 1 1 1 ∷ []), 19)
+    ∷ (proposalRefusal (book 2) [] [], 9)
+    ∷ (proposalRefusal [] [] [], 3)
+    ∷ []
+
+pub proposals-agree : all agrees proposals ≡ true
+unfolding computing proposals bytes bookText book
+proposals-agree = refl
+
+-- ════ an entry's target words, as a part of the loaded book
+
+unfoldable pub parts : List Row
+parts =
+    (length (partOf (targetPart (book 2) 3) (book 2)), 2)
+    ∷ (targetPart (book 2) 1 .start, 8)
+    ∷ (targetPart (book 2) 3 .start, 21)
+    ∷ (targetPart (book 2) 4 .start, 44)
+    ∷ (targetPart (book 2) 4 .size, 0)
+    ∷ (targetPart (book 2) 0 .start, 44)
+    ∷ (targetPart (book 33) 1 .start, 44)
+    ∷ (targetPart (book 33) 1 .size, 0)
+    ∷ []
+
+pub parts-agree : all agrees parts ≡ true
+unfolding computing parts bytes bookText book
+parts-agree = refl
+
+-- ════ what is asked before the search, for the direction 11,12: the width, and the lists' places
+
+abbrev pub asks : ℤ → ℕ → ℕ → ℕ
+asks width steps words = beforeSearch (book 2) direction width (record { steps = steps; words = words; store = 0 })
+
+unfoldable pub lists : List Row
+lists =
+    (asks off 2 16, 0)
+    ∷ (asks off 1 16, 12)
+    ∷ (asks off 2 15, 12)
+    ∷ (asks (pos 0) 2 16, 0)
+    ∷ (asks (minus 2) 0 0, 11)
+    ∷ (asks (pos 9_223_372_036_854_775_807) 2 16, 0)
+    ∷ (beforeSearch (book 2) [] (minus 2) (record { steps = 0; words = 0; store = 0 }), 9)
+    ∷ (beforeSearch (book 33) [] (minus 2) (record { steps = 0; words = 0; store = 0 }), 4)
+    ∷ []
+
+pub lists-agree : all agrees lists ≡ true
+unfolding computing lists bytes bookText book
+lists-agree = refl

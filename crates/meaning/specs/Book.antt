@@ -1,0 +1,325 @@
+-- The book: its text, its lines as numbers, questions 1 to 7, and the model that it states.
+-- A line is the list of its numbers, its kind first: "the letters B, P, T as 1, 2, 3".
+use Prim.Native.Nat.{ℕ, zero, suc, _+_, _-_}
+use mathlib.Core.Bool.{Bool, true, false, not, _&&_, cond}
+use mathlib.Core.List.{List, [], _∷_, map, dropLast}
+use lib.Dec.{eqb, leb}
+use lib.IntN.{ℤ, pos, negℤ}
+use lib.ListN.{length, getD, take, drop}
+use Rattle.laws.specs.Integers.{eqℤ, natOf}
+use Rattle.laws.specs.Lists.{all, any, keep, count, isEmpty, eqList, noneTwice, concat}
+use Rattle.meaning.specs.Bounds.{wordMost, scoreMost, penaltyMost}
+use Rattle.meaning.specs.Questions.{_unless_, _orelse_, withinℤ}
+use Rattle.meaning.specs.Numerals.{linesOf, isEnded, isNumber, valueOf}
+
+-- ════ the kinds of lines: one table, with a row for each kind
+
+-- number k of a line, its kind first; 0 behind its end
+abbrev pub numberAt : List ℤ → ℕ → ℤ
+numberAt line k = getD line k (pos 0)
+
+-- a number that is no negative one: a word, a limit, a count
+abbrev pub naturalAt : List ℤ → ℕ → ℕ
+naturalAt line k = natOf (numberAt line k)
+
+-- "a and b each 1 to 8"
+abbrev pub isPhraseLength : ℤ → Bool
+isPhraseLength z = withinℤ (pos 1) (pos 8) z
+
+-- a + b + 4; 0 where a or b is out of range or missing
+abbrev pub phraseSize : List ℤ → ℕ
+phraseSize line =
+    cond (isPhraseLength (numberAt line 1) && isPhraseLength (numberAt line 2)) (naturalAt line 1 + naturalAt line 2 + 4) 0
+
+-- "The scores u, g and s are −1,000,000 to 1,000,000"
+abbrev pub isScore : ℤ → Bool
+isScore z = withinℤ (negℤ (pos scoreMost)) (pos scoreMost) z
+
+-- "Words are 1 to 65,535."
+abbrev pub isWord : ℤ → Bool
+isWord z = withinℤ (pos 1) (pos wordMost) z
+
+-- a source or target word of a phrase
+abbrev pub isPhraseWord : ℤ → Bool
+isPhraseWord z = isWord z
+
+-- the word v or w of a triple: "Word 0 is the start symbol and may stand only as v or w."
+abbrev pub isHistoryWord : ℤ → Bool
+isHistoryWord z = withinℤ (pos 0) (pos wordMost) z
+
+-- the word y of a triple, its last
+abbrev pub isLastWord : ℤ → Bool
+isLastWord z = isWord z
+
+-- "reordering limit d, 0 to 32; penalty eta, −10,000 to 10,000; score u for an unseen triple"
+abbrev pub rangesB : List ℤ → Bool
+rangesB line =
+    withinℤ (pos 0) (pos 32) (numberAt line 1)
+    && withinℤ (negℤ (pos penaltyMost)) (pos penaltyMost) (numberAt line 2)
+    && isScore (numberAt line 3)
+
+-- after the kind, a and b: words, and the score as the last
+abbrev pub rangesP : List ℤ → Bool
+rangesP line = all isPhraseWord (dropLast (drop 3 line)) && isScore (numberAt line (length line - 1))
+
+-- "the score s of target word y after the words v and w"
+abbrev pub rangesT : List ℤ → Bool
+rangesT line =
+    isHistoryWord (numberAt line 1)
+    && isHistoryWord (numberAt line 2)
+    && isLastWord (numberAt line 3)
+    && isScore (numberAt line 4)
+
+-- how many P lines a book may have: "At most 4,096 P and 8,192 T lines."
+abbrev pub phrasesMost : ℕ
+phrasesMost = 4_096
+
+-- how many T lines
+abbrev pub triplesMost : ℕ
+triplesMost = 8_192
+
+-- where a line stands: in a text, or in a loaded list
+pub data Form : Type 0 where
+  InText : Form
+  InList : Form
+
+-- a row of the table
+pub record Kind : Type 0 where
+  -- the byte of its letter
+  pub letter : ℕ
+  -- how many numbers its line takes in a text, and in a loaded list, its kind the first; 0 where the numbers that tell it are out
+  -- of range or missing. Both are the same: "A loaded book is the same numbers in the same order"
+  pub size : Form → List ℤ → ℕ
+  -- whether the numbers of a line that has that size are in their ranges
+  pub ranges : List ℤ → Bool
+  -- how many such lines a book may have
+  pub most : ℕ
+
+-- B,d,eta,u; "Is the first line a B line, and the only one?"
+abbrev pub kindB : Kind
+kindB = record { letter = 66; size = λ form line. 4; ranges = rangesB; most = 1 }
+
+-- P,a,b,x1..xa,y1..yb,g
+abbrev pub kindP : Kind
+kindP = record { letter = 80; size = λ form. phraseSize; ranges = rangesP; most = phrasesMost }
+
+-- T,v,w,y,s
+abbrev pub kindT : Kind
+kindT = record { letter = 84; size = λ form line. 5; ranges = rangesT; most = triplesMost }
+
+-- "the letters B, P, T as 1, 2, 3": the k-th row is kind k. "So the three kinds take 4, a + b + 4 and 5 numbers."
+abbrev pub kinds : List Kind
+kinds = kindB ∷ kindP ∷ kindT ∷ []
+
+-- the line is of kind k, the k-th row's
+abbrev pub isKind : ℕ → List ℤ → Bool
+isKind k line = eqℤ (numberAt line 0) (pos k)
+
+-- a B line
+abbrev pub isB : List ℤ → Bool
+isB line = isKind 1 line
+
+-- a P line
+abbrev pub isP : List ℤ → Bool
+isP line = isKind 2 line
+
+-- a T line
+abbrev pub isT : List ℤ → Bool
+isT line = isKind 3 line
+
+-- what the row of the line's kind says, among the rows from kind k on; `none` where it is of none of them
+abbrev pub byKindFrom : {A : Type 0} → A → (Kind → A) → List ℤ → ℕ → List Kind → A
+byKindFrom none says line k [] = none
+byKindFrom none says line k (row ∷ rows) = cond (isKind k line) (says row) (byKindFrom none says line (suc k) rows)
+
+-- the same, of the whole table
+abbrev pub byKind : {A : Type 0} → A → (Kind → A) → List ℤ → A
+byKind none says line = byKindFrom none says line 1 kinds
+
+-- the kind whose letter the byte is, among the rows from kind k on; 0 where it is the letter of none of them
+abbrev pub kindFrom : ℕ → ℕ → List Kind → ℕ
+kindFrom b k [] = 0
+kindFrom b k (row ∷ rows) = cond (eqb b (row .letter)) k (kindFrom b (suc k) rows)
+
+-- of each of the rows from kind k on, there are no more lines than it allows
+abbrev pub areFew : List (List ℤ) → ℕ → List Kind → Bool
+areFew lines k [] = true
+areFew lines k (row ∷ rows) = leb (count (isKind k) lines) (row .most) && areFew lines (suc k) rows
+
+-- ════ the text: question 1
+
+-- the kind of the line that a byte begins, 0 for what is no letter of a book
+unfoldable pub kindOfByte : ℕ → ℕ
+kindOfByte b = kindFrom b 1 kinds
+
+-- the kind of a letter, which is a field of one byte
+unfoldable pub kindOfLetter : List ℕ → ℕ
+kindOfLetter [] = 0
+kindOfLetter (b ∷ []) = kindOfByte b
+kindOfLetter (b ∷ c ∷ bytes) = 0
+
+-- "a letter B, P or T and then one or more decimal numbers .., each after one comma"
+unfoldable pub isTextLine : List (List ℕ) → Bool
+isTextLine [] = false
+isTextLine (letter ∷ []) = false
+isTextLine (letter ∷ field ∷ fields) = not (eqb (kindOfLetter letter) 0) && all isNumber (field ∷ fields)
+
+-- question 1: "Is the text one or more lines, each .."
+unfoldable pub isBookText : List ℕ → Bool
+isBookText text = not (isEmpty (linesOf text)) && isEnded text && all isTextLine (linesOf text)
+
+abbrev pub lineNumbers : List (List ℕ) → List ℤ
+lineNumbers [] = []
+lineNumbers (letter ∷ fields) = pos (kindOfLetter letter) ∷ map valueOf fields
+
+-- the lines of a text, as numbers
+unfoldable pub textLines : List ℕ → List (List ℤ)
+textLines text = map lineNumbers (linesOf text)
+
+-- ════ lines as numbers: questions 2 to 6
+
+-- how many numbers the line takes that stands at the front; 0 for an unknown kind
+unfoldable pub sizeOf : Form → List ℤ → ℕ
+sizeOf form line = byKind 0 (λ row. row .size form line) line
+
+-- question 2, of a line: "Has each line the fields of its kind, with a and b in range?"
+unfoldable pub isWhole : Form → List ℤ → Bool
+isWhole form line = not (isEmpty line) && eqb (length line) (sizeOf form line)
+
+-- the lines of a loaded list. "So too for a loaded list with an unknown kind or a last line that is cut off": what cannot
+-- be cut is one last line, which is not whole. `fuel` is the list's length, and each line takes at least one number
+unfoldable pub cutLines : ℕ → List ℤ → List (List ℤ)
+cutLines zero numbers = []
+cutLines (suc fuel) [] = []
+cutLines (suc fuel) (z ∷ numbers) =
+    elim (sizeOf InList (z ∷ numbers)) [
+      | zero ↦ (z ∷ numbers) ∷ []
+      | suc size ↦ (z ∷ take size numbers) ∷ cutLines fuel (drop size numbers)
+    ]
+
+unfoldable pub loadedLines : List ℤ → List (List ℤ)
+loadedLines loaded = cutLines (length loaded) loaded
+
+-- question 3: "Is the first line a B line, and the only one?" "An empty loaded list has no first line."
+unfoldable pub isOneBFirst : List (List ℤ) → Bool
+isOneBFirst [] = false
+isOneBFirst (line ∷ lines) = isB line && not (any isB lines)
+
+-- question 4, of a line: "Is every number in its range?" Question 2 has refused an unknown kind
+unfoldable pub isInRange : List ℤ → Bool
+isInRange line = byKind false (λ row. row .ranges line) line
+
+-- question 5: "Are there no more P and T lines than allowed?" It asks of every kind but B, the first row, of which question 3 asks
+unfoldable pub isNotTooLong : List (List ℤ) → Bool
+isNotTooLong lines = areFew lines 2 (drop 1 kinds)
+
+-- v, w and y of a T line
+abbrev pub tripleKey : List ℤ → List ℤ
+tripleKey line = take 3 (drop 1 line)
+
+-- question 6: "Do no two T lines share v, w and y?"
+unfoldable pub isNoTripleTwice : List (List ℤ) → Bool
+isNoTripleTwice lines = noneTwice (eqList eqℤ) (map tripleKey (keep isT lines))
+
+-- questions 2 to 6, of the lines of a text or of a loaded list
+unfoldable pub linesRefusal : Form → List (List ℤ) → ℕ
+linesRefusal form lines =
+    2 unless all (isWhole form) lines
+    orelse 3 unless isOneBFirst lines
+    orelse 4 unless all isInRange lines
+    orelse 5 unless isNotTooLong lines
+    orelse 6 unless isNoTripleTwice lines
+
+-- "Any call that takes a loaded book ..: 2 to 6."
+unfoldable pub bookRefusal : List ℤ → ℕ
+bookRefusal loaded = linesRefusal InList (loadedLines loaded)
+
+-- ════ reading a book: questions 1 to 7
+
+-- "A loaded book is the same numbers in the same order"
+unfoldable pub loadedOf : List ℕ → List ℤ
+loadedOf text = concat (textLines text)
+
+-- "Reading a book: 1 to 7." `places` is the length of the lent list
+unfoldable pub readRefusal : List ℕ → ℕ → ℕ
+readRefusal text places =
+    1 unless isBookText text
+    orelse linesRefusal InText (textLines text)
+    orelse 7 unless leb (length (loadedOf text)) places
+
+-- ════ the model that a loaded book states
+
+-- "a phrase of a source words and b target words, .. with score g"
+pub record Entry : Type 0 where
+  pub source : List ℕ
+  pub target : List ℕ
+  pub g : ℤ
+
+-- "the score s of target word y after the words v and w"
+pub record Triple : Type 0 where
+  pub v : ℕ
+  pub w : ℕ
+  pub y : ℕ
+  pub s : ℤ
+
+-- the reordering limit d (the notes' distortion limit), the penalty eta, the score u of an unseen triple, the entries and
+-- the triples (the notes' lexicon and language model)
+pub record Book : Type 0 where
+  pub limit : ℕ
+  pub eta : ℤ
+  pub unseen : ℤ
+  pub entries : List Entry
+  pub triples : List Triple
+
+abbrev pub wordsAt : List ℤ → ℕ → ℕ → List ℕ
+wordsAt line from many = map natOf (take many (drop from line))
+
+-- P,a,b,x1..xa,y1..yb,g
+unfoldable pub entryOf : List ℤ → Entry
+entryOf line = record {
+  source = wordsAt line 3 (naturalAt line 1);
+  target = wordsAt line (3 + naturalAt line 1) (naturalAt line 2);
+  g = numberAt line (3 + naturalAt line 1 + naturalAt line 2);
+}
+
+-- T,v,w,y,s
+unfoldable pub tripleOf : List ℤ → Triple
+tripleOf line = record { v = naturalAt line 1; w = naturalAt line 2; y = naturalAt line 3; s = numberAt line 4 }
+
+-- B,d,eta,u; "The k-th P line is entry k."
+unfoldable pub bookOfLines : List (List ℤ) → Book
+bookOfLines lines = record {
+  limit = naturalAt (getD lines 0 []) 1;
+  eta = numberAt (getD lines 0 []) 2;
+  unseen = numberAt (getD lines 0 []) 3;
+  entries = map entryOf (keep isP lines);
+  triples = map tripleOf (keep isT lines);
+}
+
+unfoldable pub bookOf : List ℤ → Book
+bookOf loaded = bookOfLines (loadedLines loaded)
+
+-- ════ "An entry's target words can be had as that part of the loaded book itself"
+
+-- where a part of a list starts, and how many numbers it has
+pub record Part : Type 0 where
+  pub start : ℕ
+  pub size : ℕ
+
+-- entry k's target words, among the lines that stand from `at` on; the empty part behind the last line where there is no entry k
+unfoldable pub targetPartFrom : ℕ → ℕ → List (List ℤ) → Part
+targetPartFrom k at [] = record { start = at; size = 0 }
+targetPartFrom k at (line ∷ lines) =
+    elim (isP line && eqb k 1) [
+      | true ↦ record { start = at + 3 + naturalAt line 1; size = naturalAt line 2 }
+      | false ↦ targetPartFrom (cond (isP line) (k - 1) k) (at + length line) lines
+    ]
+
+-- "for a number that is no entry, or a list that 2 to 6 refuse, the empty part at the list's end is given"
+unfoldable pub targetPart : List ℤ → ℕ → Part
+targetPart loaded k =
+    cond (eqb (bookRefusal loaded) 0) (targetPartFrom k 0 (loadedLines loaded)) (record { start = length loaded; size = 0 })
+
+-- the numbers of a part
+unfoldable pub partOf : Part → List ℤ → List ℤ
+partOf p loaded = take (p .size) (drop (p .start) loaded)

@@ -1,0 +1,22 @@
+-- The numbers that bound a book's numbers, by name.
+use Prim.Native.Nat.{ℕ, _*_}
+
+-- "Words are 1 to 65,535."
+abbrev pub wordMost : ℕ
+wordMost = 65_535
+
+-- the numbers from 0, the start symbol, to the last word
+abbrev pub wordSpan : ℕ
+wordSpan = 65_536
+
+-- "The scores u, g and s are −1,000,000 to 1,000,000"
+abbrev pub scoreMost : ℕ
+scoreMost = 1_000_000
+
+-- "penalty eta, −10,000 to 10,000"
+abbrev pub penaltyMost : ℕ
+penaltyMost = 10_000
+
+-- what the triples that the target words of an entry end can add: at most 8 words, a score each
+abbrev pub wordsBound : ℕ
+wordsBound = 8 * scoreMost

@@ -1,0 +1,107 @@
+-- Derivations of a direction: which are valid, and the score of each. "Positions and entries count from 1."
+use Prim.Native.Nat.{ℕ, suc, _+_, _-_}
+use mathlib.Core.Path.{_≡_}
+use mathlib.Core.Bool.{Bool, true, _&&_, cond}
+use mathlib.Core.List.{List, [], _∷_, map}
+use lib.Dec.{eqb, leb}
+use lib.IntN.{ℤ, pos, _+ℤ_, _*ℤ_}
+use lib.ListN.{length, getD}
+use lib.Seq.{slice}
+use Rattle.laws.specs.Lists.{all, count, eqList, concat, oneTo, sumℤ}
+use Rattle.meaning.specs.Questions.{within}
+use Rattle.meaning.specs.Book.{Book, Entry, Triple}
+use Rattle.meaning.specs.Direction.{wordCount}
+use Rattle.meaning.specs.declared.Step.{Step}
+
+-- ════ the language model
+
+abbrev pub isTriple : ℕ → ℕ → ℕ → Triple → Bool
+isTriple v w y t = eqb (t .v) v && eqb (t .w) w && eqb (t .y) y
+
+abbrev pub listedScore : ℕ → ℕ → ℕ → ℤ → List Triple → ℤ
+listedScore v w y unseen [] = unseen
+listedScore v w y unseen (t ∷ ts) = cond (isTriple v w y t) (t .s) (listedScore v w y unseen ts)
+
+-- the score of the triple v, w, y: "A triple with no T line scores u."
+unfoldable pub tripleScore : Book → ℕ → ℕ → ℕ → ℤ
+tripleScore book v w y = listedScore v w y (book .unseen) (book .triples)
+
+-- "for each target word in turn, the score of the triple it ends", in a row that goes on from v and w
+unfoldable pub wordsScore : Book → ℕ → ℕ → List ℕ → ℤ
+wordsScore book v w [] = pos 0
+wordsScore book v w (y ∷ ys) = tripleScore book v w y +ℤ wordsScore book w y ys
+
+-- ════ steps
+
+abbrev pub noEntry : Entry
+noEntry = record { source = []; target = []; g = pos 0 }
+
+-- what stands behind the end of a list of steps
+abbrev pub noStep : Step
+noStep = record { first = 0; last = 0; entry = 0 }
+
+-- "the entry is in the book"
+unfoldable pub isEntry : Book → ℕ → Bool
+isEntry book k = within 1 (length (book .entries)) k
+
+-- entry k of the book
+unfoldable pub entryAt : Book → ℕ → Entry
+entryAt book k = getD (book .entries) (k - 1) noEntry
+
+-- "the direction's words first to last"
+unfoldable pub wordsFromTo : ℕ → ℕ → List ℕ → List ℕ
+wordsFromTo first last direction = slice (first - 1) last direction
+
+-- "It fits when the entry is in the book and its source words are the direction's words first to last, no more and no fewer"
+unfoldable pub fits : Book → List ℕ → Step → Bool
+fits book direction step =
+    isEntry book (step .entry)
+    && leb 1 (step .first)
+    && leb (step .first) (step .last)
+    && leb (step .last) (wordCount direction)
+    && eqList eqb (entryAt book (step .entry) .source) (wordsFromTo (step .first) (step .last) direction)
+
+-- "it covers those positions"
+unfoldable pub covers : Step → ℕ → Bool
+covers step i = within (step .first) (step .last) i
+
+-- "The jump of a step is |r + 1 − first|, where r is the last position of the step before it, or 0 for the first step."
+unfoldable pub jump : ℕ → Step → ℕ
+jump r step = (suc r - step .first) + (step .first - suc r)
+
+-- the jump of each step, the first after position r
+unfoldable pub jumps : ℕ → List Step → List ℕ
+jumps r [] = []
+jumps r (step ∷ steps) = jump r step ∷ jumps (step .last) steps
+
+-- ════ valid derivations
+
+unfoldable pub timesCovered : List Step → ℕ → ℕ
+timesCovered steps i = count (λ step. covers step i) steps
+
+-- "It is valid when each step fits, each word of the direction is covered exactly once, and every jump is at most d."
+unfoldable pub isValid : Book → List ℕ → List Step → Bool
+isValid book direction steps =
+    all (fits book direction) steps
+    && all (λ i. eqb (timesCovered steps i) 1) (oneTo (wordCount direction))
+    && all (λ j. leb j (book .limit)) (jumps 0 steps)
+
+-- ════ scores
+
+-- the target words of the steps, one step's after the other's
+unfoldable pub targetWords : Book → List Step → List ℕ
+targetWords book steps = concat (map (λ step. entryAt book (step .entry) .target) steps)
+
+-- "Its score is the sum of the entries' g, plus eta × jump for every step, plus, for each target word in turn, the score of
+-- the triple it ends. .. Two start symbols stand before the first target word."
+unfoldable pub scoreOf : Book → List Step → ℤ
+scoreOf book steps =
+    sumℤ (map (λ step. entryAt book (step .entry) .g) steps)
+    +ℤ sumℤ (map (λ j. book .eta *ℤ pos j) (jumps 0 steps))
+    +ℤ wordsScore book 0 0 (targetWords book steps)
+
+-- "the steps are a valid derivation of the score reported, and the words are theirs"
+pub record IsDerivation (book : Book) (direction : List ℕ) (score : ℤ) (steps : List Step) (words : List ℕ) : Type 0 where
+  pub steps-valid : isValid book direction steps ≡ true
+  pub steps-score : scoreOf book steps ≡ score
+  pub steps-words : targetWords book steps ≡ words
