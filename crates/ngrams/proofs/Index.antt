@@ -5,12 +5,14 @@ use mathlib.Core.Bool.{true, false}
 use mathlib.Core.List.{List}
 use native.Mathlib.Omega.{arith}
 use lib.Dec.{eqb}
-use lib.IntN.{ℤ, pos}
+use lib.IntN.{ℤ, pos, natAbs}
+use lib.Signed.{ltZ}
 use lib.ListN.{length, getD, set, length-set}
 use lib.Seq.{getD-set-same, getD-set-other}
 use borrow.Author.Tests.{eqb-true, eqb-false}
 use Rattle.laws.specs.Index.{Walk}
 use Rattle.laws.specs.Integers.{natOf}
+use Rattle.laws.proofs.Linear.{signed, num}
 use Rattle.laws.proofs.Tests.{by-test}
 use Rattle.laws.proofs.Index.{chained-none, chained-more, chained-same, walk-start, walk-step, walk-less}
 use Rattle.meaning.specs.Book.{Triple}
@@ -78,6 +80,14 @@ module _ {index : List ℤ} {n : ℕ} (x : Indexed index n) (key : Key) where
 pub index-less : {index : List ℤ} {n : ℕ} → Indexed index n → (at : ℕ) {at′ : ℕ} → 0 < at → at ≤ n → at′ ≡ naturalIn index (linksFrom + (at - 1)) → at′ < at
 unfolding linkAt
 index-less x at p l e = walk-less (x .chained) p l e
+
+-- a link that is more than 0, as code holds it
+pub link-some : (z : ℤ) → ltZ (pos 0) z ≡ true → (natAbs z ≡ natOf z) × (1 ≤ natOf z)
+link-some z e = (omega (arith, signed, num z), omega (arith, signed, num z))
+
+-- and one that is not
+pub link-none : (z : ℤ) → ltZ (pos 0) z ≡ false → natOf z ≡ 0
+link-none z e = omega (arith, signed, num z)
 
 -- ---- no record, and one more
 

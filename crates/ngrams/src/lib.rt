@@ -87,13 +87,14 @@ fn find(index: &[i32], count: usize, key: Key) -> usize
     requires { ⌜ Indexed (now index) count ⌝ }
     ensures { λ r. ⌜ r ≡ latest (holds (now (index .entry)) key) count ⌝ }
 {
-    let mut at = natural_in(index, bucket(key));
-    while at > 0 {
+    let mut link = index[bucket(key)];
+    while link > 0 {
+        let at = link as usize;
         let k = at - 1;
         if is_key(index, k, key) {
             return at;
         }
-        at = natural_in(index, LINKS + k);
+        link = index[LINKS + k];
     }
     0
 }
