@@ -1,4 +1,4 @@
--- What a row of target words says, one word at a time.
+-- A row of target words, one word at a time.
 use Prim.Native.Nat.{ℕ, _+_, _*_, _≤_, _<_}
 use native.Mathlib.Nat.{mod-eq-of-lt}
 use native.Mathlib.Omega.{arith}

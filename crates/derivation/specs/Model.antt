@@ -27,7 +27,7 @@ pub record Model (index : List ℤ) (t : Setup) : Type 0 where
   pub different : noneTwice sameKey (keysIn index (t .triples)) ≡ true
   pub scores-within : (v w y : ℕ) → Within scoreMost (modelScore index t v w y)
 
--- nothing row yet, after two words
+-- no words yet, after two words
 abbrev pub emptyRow : ℕ → ℕ → Row
 emptyRow v w = record { score = pos 0; word1 = v; word2 = w }
 

@@ -20,7 +20,7 @@ jumpFrom r first = (suc r - first) + (first - suc r)
 unfoldable pub gainBy : Setup → Phrase → ℕ → Row → ℤ
 gainBy t p far row = p .g +ℤ t .eta *ℤ pos far +ℤ row .score
 
--- the entry's words are row, the positions covered, and the gain added
+-- the entry's words are added, the positions covered, and the gain added
 unfoldable pub nextState : List ℤ → Setup → Phrase → Entry → ℕ → ℕ → State → State
 nextState index t p e first last s =
     let row = withWords index t (emptyRow (s .word1) (s .word2)) (e .target) in

@@ -1,4 +1,4 @@
-// Steps on plain numbers: what an entry says, where it fits, what it adds to a score, and the state that it leads to.
+// Steps on plain numbers: what an entry's words score, where it fits, what it adds to a score, and the state that it leads to.
 pub mod model;
 pub mod places;
 pub mod step;
@@ -14,7 +14,7 @@ pub struct Setup {
     pub triples: usize,
 }
 
-// What a row of target words says: the scores of the triples that they end, and the last two words.
+// A row of target words: the sum of the scores of the triples that they end, and the last two words.
 pub struct Row {
     pub score: i64,
     pub word1: u16,

@@ -43,7 +43,7 @@ pub fn word_at(book: &[i32], k: usize) -> u16
     (x as usize % 65536) as u16
 }
 
-// What the entry's target words say after the words word1 and word2.
+// The row of the entry's target words after the words word1 and word2.
 pub fn row_of(book: &[i32], index: &[i32], t: Setup, p: Phrase, word1: u16, word2: u16) -> Row
     requires { ⌜ Model (now index) t ⌝ }
     requires { ⌜ Phrased (now book) p ⌝ }

@@ -1,4 +1,4 @@
--- The core is asked, its steps are put as numbers, and its reply is told.
+-- The decode on plain numbers is asked, its steps are put as numbers, and its reply is told.
 use native.Mathlib.Omega.{arith}
 use Prim.Native.Nat.{_/_}
 use mathlib.Core.Path.{_≡_, sym, ap, _∙_, subst}

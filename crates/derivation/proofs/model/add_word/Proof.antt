@@ -16,7 +16,7 @@ use Rattle.derivation.proofs.model.add_word.Tie as tie
 triple-score-requires : tie.Need-triple-score-requires
 triple-score-requires c κs = search needs
 
--- what was row so far, and the score of the new triple
+-- the row so far, and the score of the new triple
 total : (c : tie.After-triple-score)
     → let a = c .before .before .before .before .before .args in
     Got (wordsBound + scoreMost) (i64 (a .s .score) +ℤ i64 (c .triple-score .result)) (a .s .score +ℤ modelScore (a .index .now) (a .t) (a .s .word1) (a .s .word2) (a .y))

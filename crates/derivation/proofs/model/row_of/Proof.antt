@@ -1,4 +1,4 @@
--- What is left of the row, row after what was row so far, is the whole row's saying; after j words the score is within j million.
+-- What is left of the words, added to the row so far, makes the whole row; after j words the score is within j million.
 use borrow.Author.Needs.{needs}
 use Prim.Native.Nat.{_*_, _-_, _≤_, _<_}
 use mathlib.Core.Path.{_≡_, refl, sym, _∙_}
