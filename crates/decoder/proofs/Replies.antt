@@ -12,7 +12,6 @@ use lib.Signed.{leZ}
 use lib.ListN.{length, replicate, length-replicate}
 use Rattle.laws.specs.Lists.{isEmpty}
 use Rattle.laws.proofs.Tests.{both}
-use Rattle.book.specs.Entries.{EntriesAt}
 use Rattle.meaning.specs.Questions.{_unless_, _orelse_, number}
 use Rattle.meaning.specs.Book.{Book, bookOf, bookRefusal}
 use Rattle.meaning.specs.Direction.{wordCount, directionRefusal}

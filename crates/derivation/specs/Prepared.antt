@@ -3,7 +3,6 @@ use Prim.Native.Nat.{ℕ}
 use mathlib.Core.Path.{_≡_}
 use mathlib.Core.List.{List}
 use lib.IntN.{ℤ}
-use lib.ListN.{length}
 use Rattle.meaning.specs.Book.{bookRefusal, bookOf}
 use Rattle.meaning.specs.Direction.{wordCount, directionRefusal}
 use Rattle.meaning.specs.Derivation.{tripleScore}

@@ -2,7 +2,6 @@
 use crate::Phrase;
 use book::entries;
 ghost use Prim.Native.Nat.{_+_, _≤_};
-ghost use lib.ListN.{length};
 ghost use Rattle.meaning.specs.Book.{bookOf};
 ghost use Rattle.meaning.specs.Derivation.{entryAt};
 ghost use Rattle.book.specs.Entries.{EntriesAt};

@@ -1,6 +1,6 @@
 -- The index: a record of the words sought lies in their bucket, so the walk of one chain is enough; and how the index starts and grows inside the one list.
 use Prim.Native.Nat.{ℕ, _+_, _-_, _≤_, _<_}
-use mathlib.Core.Path.{_≡_, refl, sym, ap, _∙_}
+use mathlib.Core.Path.{_≡_, sym, ap, _∙_}
 use mathlib.Core.Bool.{true, false}
 use mathlib.Core.List.{List}
 use native.Mathlib.Omega.{arith}
@@ -15,7 +15,6 @@ use Rattle.laws.specs.Integers.{natOf}
 use Rattle.laws.proofs.Linear.{signed, num}
 use Rattle.laws.proofs.Tests.{by-test}
 use Rattle.laws.proofs.Index.{chained-none, chained-more, chained-same, walk-start, walk-step, walk-less}
-use Rattle.meaning.specs.Book.{Triple}
 use Rattle.ngrams.specs.declared.Key.{Key}
 use Rattle.ngrams.specs.Parts.{bucketCount, recordsMost, linksFrom, recordsFrom, recordsEnd, naturalIn, headAt, linkAt, KeptFrom, KeptBelow}
 use Rattle.ngrams.specs.Grams.{recordAt, keyAt, scoreAt, tripleAt, bucketOf, bucketAt, holds, Room, Indexed, Cleared, Inserted}

@@ -3,12 +3,12 @@
 // RECORDS_END on is the caller's. A head or a link is 1 + a record's number, or 0.
 ghost use mathlib.Core.Path.{_≡_};
 ghost use mathlib.Core.Bool.{true};
-ghost use Prim.Native.Nat.{ℕ, _+_, _*_, _<_, _≤_};
+ghost use Prim.Native.Nat.{_+_, _*_, _<_, _≤_};
 ghost use lib.ListN.{length};
 ghost use Rattle.laws.specs.Index.{latest};
 ghost use Rattle.laws.specs.Lists.{noneTwice};
 ghost use Rattle.meaning.specs.Derivation.{listedScore};
-ghost use Rattle.ngrams.specs.Parts.{bucketCount, recordSize, recordsFrom, recordsEnd, naturalIn};
+ghost use Rattle.ngrams.specs.Parts.{bucketCount, naturalIn};
 ghost use Rattle.ngrams.specs.Grams.{recordAt, keyAt, keysIn, triplesIn, putRecord, sameKey, holds, bucketOf, Room, Indexed, Cleared, Inserted, earlierAlike, Compared, latestScore};
 
 // How many buckets there are, how many records there may be, and how many numbers a record has.

@@ -11,7 +11,7 @@ use Rattle.ngrams.specs.Parts.{linksFrom, naturalIn}
 use mathlib.Core.Path.{_≡_, sym, _∙_}
 use borrow.Author.Needs.{needs}
 use native.Mathlib.Omega.{arith}
-use mir.Syntax.{w32, w64}
+use mir.Syntax.{w32}
 use mir.Val.{toZ}
 use Rattle.laws.specs.Integers.{natOf}
 use Rattle.laws.proofs.Index.{walk-out, walk-hit}

@@ -1,5 +1,5 @@
 -- The places of the P lines before `at` are found, and every line is whole, so the walk comes to the list's end.
-use mathlib.Core.Path.{_≡_, refl}
+use mathlib.Core.Path.{refl}
 use Prim.Native.Nat.{_-_}
 use native.Mathlib.Omega.{arith}
 use lib.ListN.{length}
