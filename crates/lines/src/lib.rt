@@ -2,13 +2,17 @@
 // are judged by the same functions.
 ghost use mathlib.Core.Path.{_≡_};
 ghost use mathlib.Core.List.{dropLast};
-ghost use Prim.Native.Nat.{_-_};
+ghost use Prim.Native.Nat.{_-_, _%_};
 ghost use lib.IntN.{pos, negℤ};
 ghost use lib.ListN.{length, drop};
 ghost use Rattle.laws.specs.Lists.{all};
+ghost use Rattle.meaning.specs.Bounds.{wordSpan};
 ghost use Rattle.meaning.specs.Questions.{withinℤ};
 ghost use Rattle.laws.specs.Integers.{natOf};
 ghost use Rattle.meaning.specs.Book.{Form, InText, numberAt, naturalAt, isKind, isPhraseLength, phraseSize, sizeOf, isWhole, isScore, isWord, isPhraseWord, isHistoryWord, isLastWord, rangesB, rangesP, rangesT, isInRange};
+
+// The numbers from 0, the start symbol, to the last word.
+const WORD_SPAN: usize = 65536;
 
 // The number, or 0 where it is negative.
 pub fn natural(x: i32) -> usize
@@ -29,6 +33,13 @@ pub fn natural_at(line: &[i32], k: usize) -> usize
     ensures { λ r. ⌜ r ≡ naturalAt (now (line .entry)) k ⌝ }
 {
     natural(number_at(line, k))
+}
+
+// The same as a word: what passes 65,535 (question 4 refuses it) loses its multiples of 65,536.
+pub fn word_at(line: &[i32], k: usize) -> u16
+    ensures { λ r. ⌜ r ≡ naturalAt (now (line .entry)) k % wordSpan ⌝ }
+{
+    (natural_at(line, k) % WORD_SPAN) as u16
 }
 
 // The line is of the kind k, row k of the table: 1 for B, 2 for P, 3 for T.

@@ -5,7 +5,6 @@ use mathlib.Core.Bool.{true, false}
 use mathlib.Core.List.{List, [], _∷_}
 use native.Mathlib.Omega.{arith}
 use lib.Dec.{eqb}
-use lib.IntN.{ℤ}
 use lib.ListN.{length, getD, length-append, List·getD-append}
 use lib.Seq.{getD-at}
 use borrow.Author.Tests.{eqb-true, eqb-false}
@@ -42,7 +41,7 @@ module _ {A : Type 0} (f : ℕ → A) where
 
 -- ---- words that stand twice
 
-module _ (index : List ℤ) where
+module _ (index : List ℕ) where
   -- the words of the first n records differ
   abbrev pub Different : ℕ → Type 0
   Different n = (j k : ℕ) → j < k → k < n → sameKey (keyAt index j) (keyAt index k) ≡ false
@@ -80,7 +79,7 @@ module _ (index : List ℤ) where
 
 -- ---- where the records are kept, so are their words and their triples
 
-module _ {old new : List ℤ} (same : KeptFrom recordsFrom old new) where
+module _ {old new : List ℕ} (same : KeptFrom recordsFrom old new) where
   pub kept-different : {n : ℕ} → Different old n → Different new n
   kept-different h j k l m = rw (kept-key same j, kept-key same k) (h j k l m)
 
@@ -90,7 +89,7 @@ module _ {old new : List ℤ} (same : KeptFrom recordsFrom old new) where
   pub kept-triples : (n : ℕ) → triplesIn new n ≡ triplesIn old n
   kept-triples n = firsts-same (tripleAt old) (tripleAt new) n (λ k l. kept-triple same k)
 
-module _ {old new : List ℤ} (same : KeptBelow recordsEnd old new) where
+module _ {old new : List ℕ} (same : KeptBelow recordsEnd old new) where
   pub below-keys : (n : ℕ) → n ≤ recordsMost → keysIn new n ≡ keysIn old n
   below-keys n h = firsts-same (keyAt old) (keyAt new) n (λ k l. below-key same k (omega arith))
 

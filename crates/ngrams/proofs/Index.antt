@@ -5,48 +5,48 @@ use mathlib.Core.Bool.{true, false}
 use mathlib.Core.List.{List}
 use native.Mathlib.Omega.{arith}
 use lib.Dec.{eqb}
-use lib.IntN.{ℤ, pos, natAbs}
-use lib.Signed.{ltZ}
+use lib.IntN.{pos, _-ℤ_}
 use lib.ListN.{length, getD, set, length-set}
 use lib.Seq.{getD-set-same, getD-set-other}
 use borrow.Author.Tests.{eqb-true, eqb-false}
 use Rattle.laws.specs.Index.{Walk}
-use Rattle.laws.specs.Integers.{natOf}
-use Rattle.laws.proofs.Linear.{signed, num}
 use Rattle.laws.proofs.Tests.{by-test}
 use Rattle.laws.proofs.Index.{chained-none, chained-more, chained-same, walk-start, walk-step, walk-less}
+use Rattle.halves.proofs.Halves.{whole-same}
 use Rattle.ngrams.specs.declared.Key.{Key}
-use Rattle.ngrams.specs.Parts.{bucketCount, recordsMost, linksFrom, recordsFrom, recordsEnd, naturalIn, headAt, linkAt, KeptFrom, KeptBelow}
-use Rattle.ngrams.specs.Grams.{recordAt, keyAt, scoreAt, tripleAt, bucketOf, bucketAt, holds, Room, Indexed, Cleared, Inserted}
+use Rattle.ngrams.specs.Parts.{bucketCount, recordsMost, recordSize, linksFrom, recordsFrom, recordsEnd, headAt, linkAt, KeptFrom, KeptBelow}
+use Rattle.ngrams.specs.Grams.{recordAt, keyAt, signShift, scoreAt, tripleAt, bucketOf, bucketAt, holds, Room, Indexed, Cleared, Inserted}
 use Rattle.ngrams.proofs.Keys.{same-is}
-use Rattle.ngrams.proofs.Parts.{kept-all, kept-set, kept-then, same-natural}
+use Rattle.ngrams.proofs.Parts.{kept-all, kept-set, kept-then}
 
 -- a record that has the words lies in their bucket
-holds-bucket : (index : List ℤ) (key : Key) (k : ℕ) → holds index key k ≡ true → bucketAt index k ≡ bucketOf key
+holds-bucket : (index : List ℕ) (key : Key) (k : ℕ) → holds index key k ≡ true → bucketAt index k ≡ bucketOf key
 unfolding holds bucketAt
 holds-bucket index key k t = ap bucketOf (sym (same-is key (keyAt index k) t))
 
 -- ---- records that are kept
 
 -- two lists that hold the same numbers where record k stands
-module _ (old new : List ℤ) (k : ℕ) (same : (f : ℕ) → f < 4 → getD new (recordAt k + f) (pos 0) ≡ getD old (recordAt k + f) (pos 0)) where
-  first : getD new (recordAt k) (pos 0) ≡ getD old (recordAt k) (pos 0)
+module _ (old new : List ℕ) (k : ℕ) (same : (f : ℕ) → f < recordSize → getD new (recordAt k + f) 0 ≡ getD old (recordAt k + f) 0) where
+  first : getD new (recordAt k) 0 ≡ getD old (recordAt k) 0
   first = let z : recordAt k + 0 ≡ recordAt k = omega arith in rw z at (same 0 (omega arith))
 
   pub key-same : keyAt new k ≡ keyAt old k
   unfolding keyAt
-  key-same = rw (same-natural old new (recordAt k) first, same-natural old new (recordAt k + 1) (same 1 (omega arith)), same-natural old new (recordAt k + 2) (same 2 (omega arith)))
+  key-same = rw (first, same 1 (omega arith), same 2 (omega arith))
 
   score-same : scoreAt new k ≡ scoreAt old k
   unfolding scoreAt
-  score-same = same 3 (omega arith)
+  score-same =
+      let z : recordAt k + 3 + 1 ≡ recordAt k + 4 = omega arith in
+      ap (λ (n : ℕ). pos n -ℤ pos signShift) (whole-same old new (recordAt k + 3) (same 3 (omega arith)) (rw z (same 4 (omega arith))))
 
   pub triple-same : tripleAt new k ≡ tripleAt old k
   unfolding tripleAt
   triple-same = rw (key-same, score-same)
 
 -- from the records on
-module _ {old new : List ℤ} (same : KeptFrom recordsFrom old new) where
+module _ {old new : List ℕ} (same : KeptFrom recordsFrom old new) where
   pub kept-key : (k : ℕ) → keyAt new k ≡ keyAt old k
   kept-key k = key-same old new k (λ f l. same .at (recordAt k + f) (omega arith))
 
@@ -61,80 +61,64 @@ module _ {old new : List ℤ} (same : KeptFrom recordsFrom old new) where
   kept-room r = let p = r .parts in let s = same .size in record { parts = omega arith; few = r .few }
 
 -- fewer records need no more room
-pub room-less : {index : List ℤ} {n : ℕ} (m : ℕ) → m ≤ n → Room index n → Room index m
+pub room-less : {index : List ℕ} {n : ℕ} (m : ℕ) → m ≤ n → Room index n → Room index m
 room-less m l r = let f = r .few in record { parts = r .parts; few = omega arith }
 
 -- ---- the walk
 
-module _ {index : List ℤ} {n : ℕ} (x : Indexed index n) (key : Key) where
-  pub index-start : {h at : ℕ} → h ≡ bucketOf key → h < bucketCount → at ≡ naturalIn index h → Walk (bucketAt index) (holds index key) (bucketOf key) n at
+module _ {index : List ℕ} {n : ℕ} (x : Indexed index n) (key : Key) where
+  pub index-start : {h at : ℕ} → h ≡ bucketOf key → h < bucketCount → at ≡ getD index h 0 → Walk (bucketAt index) (holds index key) (bucketOf key) n at
   unfolding headAt
   index-start e l q = walk-start (x .chained) (holds index key) (bucketOf key) (λ k m t. holds-bucket index key k t) e l q
 
   pub index-step : {at at′ : ℕ} → Walk (bucketAt index) (holds index key) (bucketOf key) n at → 0 < at → holds index key (at - 1) ≡ false
-      → at′ ≡ naturalIn index (linksFrom + (at - 1)) → Walk (bucketAt index) (holds index key) (bucketOf key) n at′
+      → at′ ≡ getD index (linksFrom + (at - 1)) 0 → Walk (bucketAt index) (holds index key) (bucketOf key) n at′
   unfolding linkAt
   index-step k p f q = walk-step (x .chained) (holds index key) (bucketOf key) (λ m l t. holds-bucket index key m t) k p f q
 
-pub index-less : {index : List ℤ} {n : ℕ} → Indexed index n → (at : ℕ) {at′ : ℕ} → 0 < at → at ≤ n → at′ ≡ naturalIn index (linksFrom + (at - 1)) → at′ < at
+pub index-less : {index : List ℕ} {n : ℕ} → Indexed index n → (at : ℕ) {at′ : ℕ} → 0 < at → at ≤ n → at′ ≡ getD index (linksFrom + (at - 1)) 0 → at′ < at
 unfolding linkAt
 index-less x at p l e = walk-less (x .chained) p l e
 
--- a link that is more than 0, as code holds it
-pub link-some : (z : ℤ) → ltZ (pos 0) z ≡ true → (natAbs z ≡ natOf z) × (1 ≤ natOf z)
-link-some z e = (omega (arith, signed, num z), omega (arith, signed, num z))
-
--- and one that is not
-pub link-none : (z : ℤ) → ltZ (pos 0) z ≡ false → natOf z ≡ 0
-link-none z e = omega (arith, signed, num z)
-
 -- ---- no record, and one more
 
-pub index-none : {old new : List ℤ} {n : ℕ} → Room old n → Cleared old new → Indexed new 0
+pub index-none : {old new : List ℕ} {n : ℕ} → Room old n → Cleared old new → Indexed new 0
 index-none {old} {new} r c =
     record {
       room = room-less 0 (omega arith) (kept-room (kept-then (omega arith) (c .kept) (kept-all recordsFrom new)) r);
       chained = chained-none (bucketAt new) (headAt new) (linkAt new) bucketCount (c .none);
     }
 
--- a natural that was stored
-natural-same : (index : List ℤ) (k v : ℕ) → k < length index → naturalIn (set index k (pos v)) k ≡ v
-unfolding naturalIn
-natural-same index k v l = ap natOf (getD-set-same index k (pos v) (pos 0) l)
-
 -- the two stores of `insert`
-module _ (index : List ℤ) (i h : ℕ) where
-  abbrev pub linked : List ℤ
-  linked = set (set index (linksFrom + i) (getD index h (pos 0))) h (pos (i + 1))
+module _ (index : List ℕ) (i h : ℕ) where
+  abbrev pub linked : List ℕ
+  linked = set (set index (linksFrom + i) (getD index h 0)) h (i + 1)
 
   module _ (l : h < bucketCount) (m : i < recordsMost) (n : recordsEnd ≤ length index) where
     linked-kept : KeptFrom recordsFrom index linked
     linked-kept =
-        kept-then (omega arith) (kept-set {from = recordsFrom} index (linksFrom + i) (getD index h (pos 0)) (omega arith)) (kept-set (set index (linksFrom + i) (getD index h (pos 0))) h (pos (i + 1)) (omega arith))
+        kept-then (omega arith) (kept-set {from = recordsFrom} index (linksFrom + i) (getD index h 0) (omega arith)) (kept-set (set index (linksFrom + i) (getD index h 0)) h (i + 1) (omega arith))
 
     linked-head : headAt linked h ≡ i + 1
     unfolding headAt
-    linked-head = natural-same (set index (linksFrom + i) (getD index h (pos 0))) h (i + 1) (simp length-set (omega arith))
+    linked-head = getD-set-same (set index (linksFrom + i) (getD index h 0)) h (i + 1) 0 (simp length-set (omega arith))
 
     linked-heads : (g : ℕ) → g < bucketCount → (g ≡ h → ⊥) → headAt linked g ≡ headAt index g
     unfolding headAt
     linked-heads g lt ne =
-        same-natural index linked g
-        (getD-set-other (set index (linksFrom + i) (getD index h (pos 0))) h g (pos (i + 1)) (pos 0) ne ∙ getD-set-other index (linksFrom + i) g (getD index h (pos 0)) (pos 0) (omega arith))
+        getD-set-other (set index (linksFrom + i) (getD index h 0)) h g (i + 1) 0 ne ∙ getD-set-other index (linksFrom + i) g (getD index h 0) 0 (omega arith)
 
     linked-link : linkAt linked i ≡ headAt index h
-    unfolding linkAt headAt naturalIn
+    unfolding linkAt headAt
     linked-link =
-        ap natOf
-        (getD-set-other (set index (linksFrom + i) (getD index h (pos 0))) h (linksFrom + i) (pos (i + 1)) (pos 0) (omega arith) ∙ getD-set-same index (linksFrom + i) (getD index h (pos 0)) (pos 0) (omega arith))
+        getD-set-other (set index (linksFrom + i) (getD index h 0)) h (linksFrom + i) (i + 1) 0 (omega arith) ∙ getD-set-same index (linksFrom + i) (getD index h 0) 0 (omega arith)
 
     linked-links : (k : ℕ) → k < i → linkAt linked k ≡ linkAt index k
     unfolding linkAt
     linked-links k lt =
-        same-natural index linked (linksFrom + k)
-        (getD-set-other (set index (linksFrom + i) (getD index h (pos 0))) h (linksFrom + k) (pos (i + 1)) (pos 0) (omega arith) ∙ getD-set-other index (linksFrom + i) (linksFrom + k) (getD index h (pos 0)) (pos 0) (omega arith))
+        getD-set-other (set index (linksFrom + i) (getD index h 0)) h (linksFrom + k) (i + 1) 0 (omega arith) ∙ getD-set-other index (linksFrom + i) (linksFrom + k) (getD index h 0) 0 (omega arith)
 
-pub index-more : {index : List ℤ} {i h : ℕ} → Indexed index i → Room index (i + 1) → h ≡ bucketOf (keyAt index i) → h < bucketCount → Inserted index (linked index i h) i
+pub index-more : {index : List ℕ} {i h : ℕ} → Indexed index i → Room index (i + 1) → h ≡ bucketOf (keyAt index i) → h < bucketCount → Inserted index (linked index i h) i
 unfolding bucketAt
 index-more {index} {i} {h} x r e l =
     let m : i < recordsMost = (let f = r .few in omega arith) in
@@ -157,16 +141,16 @@ index-more {index} {i} {h} x r e l =
     }
 
 -- one head more is cleared
-pub heads-none : (index : List ℤ) (k : ℕ) → ((j : ℕ) → j < k → headAt index j ≡ 0) → k < length index → (j : ℕ) → j < k + 1 → headAt (set index k (pos 0)) j ≡ 0
+pub heads-none : (index : List ℕ) (k : ℕ) → ((j : ℕ) → j < k → headAt index j ≡ 0) → k < length index → (j : ℕ) → j < k + 1 → headAt (set index k 0) j ≡ 0
 unfolding headAt
 heads-none index k h l j m =
     by-test (eqb j k)
-    (λ e. let q : j ≡ k = eqb-true j k e in rw q (natural-same index k 0 l))
-    (λ f. let d = eqb-false j k f in same-natural index (set index k (pos 0)) j (getD-set-other index k j (pos 0) (pos 0) d) ∙ h j (omega (arith, d)))
+    (λ e. let q : j ≡ k = eqb-true j k e in rw q (getD-set-same index k 0 0 l))
+    (λ f. let d = eqb-false j k f in getD-set-other index k j 0 0 d ∙ h j (omega (arith, d)))
 
 -- ---- the caller's part is written: the index and the records stay
 
-module _ {old new : List ℤ} (same : KeptBelow recordsEnd old new) where
+module _ {old new : List ℕ} (same : KeptBelow recordsEnd old new) where
   pub below-triple : (k : ℕ) → k < recordsMost → tripleAt new k ≡ tripleAt old k
   below-triple k l = triple-same old new k (λ f m. same .at (recordAt k + f) (omega arith))
 
@@ -184,6 +168,6 @@ module _ {old new : List ℤ} (same : KeptBelow recordsEnd old new) where
         chained =
             chained-same (bucketAt new) (headAt new) (linkAt new) (x .chained)
             (λ k l. ap bucketOf (below-key k (omega arith)))
-            (λ h l. same-natural old new h (same .at h (omega arith)))
-            (λ k l. same-natural old new (linksFrom + k) (same .at (linksFrom + k) (omega arith)));
+            (λ h l. same .at h (omega arith))
+            (λ k l. same .at (linksFrom + k) (omega arith));
       }

@@ -4,27 +4,26 @@ use mathlib.Core.Path.{_≡_, sym, ap}
 use mathlib.Core.Bool.{true, false, _&&_}
 use mathlib.Core.List.{List}
 use lib.Dec.{eqb}
-use lib.IntN.{ℤ}
+use lib.ListN.{getD}
 use borrow.Author.Tests.{eqb-true, eq-eqb, ne-eqb}
 use Rattle.laws.proofs.Tests.{both, both-of, same-test}
 use Rattle.ngrams.specs.declared.Key.{Key}
-use Rattle.ngrams.specs.Parts.{naturalIn}
 use Rattle.ngrams.specs.Grams.{recordAt, keyAt, sameKey, holds}
 
 -- ---- the test of a record
 
-module _ (index : List ℤ) (key : Key) (k : ℕ) where
-  pub holds-first : (naturalIn index (recordAt k) ≡ key .v → ⊥) → false ≡ holds index key k
+module _ (index : List ℕ) (key : Key) (k : ℕ) where
+  pub holds-first : (getD index (recordAt k) 0 ≡ key .v → ⊥) → false ≡ holds index key k
   unfolding holds sameKey keyAt
-  holds-first n = rw (ne-eqb (naturalIn index (recordAt k)) (key .v) n)
+  holds-first n = rw (ne-eqb (getD index (recordAt k) 0) (key .v) n)
 
-  pub holds-second : naturalIn index (recordAt k) ≡ key .v → (naturalIn index (recordAt k + 1) ≡ key .w → ⊥) → false ≡ holds index key k
+  pub holds-second : getD index (recordAt k) 0 ≡ key .v → (getD index (recordAt k + 1) 0 ≡ key .w → ⊥) → false ≡ holds index key k
   unfolding holds sameKey keyAt
-  holds-second e n = rw (eq-eqb (naturalIn index (recordAt k)) (key .v) e, ne-eqb (naturalIn index (recordAt k + 1)) (key .w) n)
+  holds-second e n = rw (eq-eqb (getD index (recordAt k) 0) (key .v) e, ne-eqb (getD index (recordAt k + 1) 0) (key .w) n)
 
-  pub holds-third : naturalIn index (recordAt k) ≡ key .v → naturalIn index (recordAt k + 1) ≡ key .w → eqb (naturalIn index (recordAt k + 2)) (key .y) ≡ holds index key k
+  pub holds-third : getD index (recordAt k) 0 ≡ key .v → getD index (recordAt k + 1) 0 ≡ key .w → eqb (getD index (recordAt k + 2) 0) (key .y) ≡ holds index key k
   unfolding holds sameKey keyAt
-  holds-third e f = rw (eq-eqb (naturalIn index (recordAt k)) (key .v) e, eq-eqb (naturalIn index (recordAt k + 1)) (key .w) f)
+  holds-third e f = rw (eq-eqb (getD index (recordAt k) 0) (key .v) e, eq-eqb (getD index (recordAt k + 1) 0) (key .w) f)
 
 -- ---- two keys
 

@@ -1,28 +1,40 @@
--- A record that is put: its four numbers are the line's, and what stands before it is not touched.
-use Prim.Native.Nat.{ℕ, zero, suc, _+_, _≤_, _<_}
+-- A record that is put: its numbers are the line's, and what stands before it is not touched.
+use Prim.Native.Nat.{ℕ, zero, suc, _+_, _%_, _≤_, _<_}
 use native.Mathlib.Omega.{arith}
 use mathlib.Core.Path.{_≡_}
-use mathlib.Core.List.{List, [], _∷_}
-use lib.IntN.{ℤ, pos}
-use lib.ListN.{length, getD}
+use mathlib.Core.List.{List, _∷_}
+use lib.IntN.{ℤ}
+use lib.ListN.{length, getD, set}
+use Rattle.laws.specs.Lists.{setFrom}
 use Rattle.laws.proofs.Fields.{from-long, from-far, from-first, from-near}
-use Rattle.meaning.specs.Book.{numberAt}
-use Rattle.ngrams.specs.Grams.{recordAt, putRecord}
+use Rattle.meaning.specs.Bounds.{wordSpan}
+use Rattle.meaning.specs.Book.{numberAt, naturalAt}
+use Rattle.halves.specs.Halves.{halvesOf}
+use Rattle.ngrams.specs.Parts.{recordSize}
+use Rattle.ngrams.specs.Grams.{recordAt, shifted, recordOf, putRecord}
 
-pub put-long : (index line : List ℤ) (k : ℕ) → length (putRecord index k line) ≡ length index
-unfolding putRecord
-put-long index line k = from-long index (recordAt k) (numberAt line 1 ∷ numberAt line 2 ∷ numberAt line 3 ∷ numberAt line 4 ∷ [])
+module _ (index : List ℕ) (line : List ℤ) (k : ℕ) where
+  -- the record's numbers but the first
+  abbrev more : List ℕ
+  more = naturalAt line 2 % wordSpan ∷ naturalAt line 3 % wordSpan ∷ halvesOf (shifted (numberAt line 4))
 
-pub put-far : (index line : List ℤ) (k p : ℕ) → p < recordAt k → getD (putRecord index k line) p (pos 0) ≡ getD index p (pos 0)
-unfolding putRecord
-put-far index line k p h = from-far (numberAt line 1 ∷ numberAt line 2 ∷ numberAt line 3 ∷ numberAt line 4 ∷ []) index (recordAt k) p (pos 0) (λ (z : recordAt k ≤ p). absurd (omega arith))
+  pub put-long : length (putRecord index k line) ≡ length index
+  unfolding putRecord
+  put-long = from-long index (recordAt k) (recordOf line)
 
-pub put-near : (index line : List ℤ) (k j : ℕ) → j < 4 → recordAt (k + 1) ≤ length index → getD (putRecord index k line) (recordAt k + j) (pos 0) ≡ numberAt line (1 + j)
-unfolding putRecord
-put-near index line k zero h l =
-    let z : recordAt k + 0 ≡ recordAt k = omega arith in
-    rw z (from-first (numberAt line 1) (numberAt line 2 ∷ numberAt line 3 ∷ numberAt line 4 ∷ []) index (recordAt k) (pos 0) (omega arith))
-put-near index line k (suc zero) h l = from-near (numberAt line 1) (numberAt line 2 ∷ numberAt line 3 ∷ numberAt line 4 ∷ []) index (recordAt k) 0 (pos 0) (omega arith) (omega arith)
-put-near index line k (suc (suc zero)) h l = from-near (numberAt line 1) (numberAt line 2 ∷ numberAt line 3 ∷ numberAt line 4 ∷ []) index (recordAt k) 1 (pos 0) (omega arith) (omega arith)
-put-near index line k (suc (suc (suc zero))) h l = from-near (numberAt line 1) (numberAt line 2 ∷ numberAt line 3 ∷ numberAt line 4 ∷ []) index (recordAt k) 2 (pos 0) (omega arith) (omega arith)
-put-near index line k (suc (suc (suc (suc j)))) h l = absurd (omega arith)
+  pub put-far : (p : ℕ) → p < recordAt k → getD (putRecord index k line) p 0 ≡ getD index p 0
+  unfolding putRecord
+  put-far p h = from-far (recordOf line) index (recordAt k) p 0 (λ (z : recordAt k ≤ p). absurd (omega arith))
+
+  pub put-near : (j : ℕ) → j < recordSize → recordAt (k + 1) ≤ length index → getD (putRecord index k line) (recordAt k + j) 0 ≡ getD (recordOf line) j 0
+  unfolding putRecord
+  put-near zero h l =
+      let z : recordAt k + 0 ≡ recordAt k = omega arith in
+      rw z (from-first (naturalAt line 1 % wordSpan) more index (recordAt k) 0 (omega arith))
+  put-near (suc j) h l = from-near (naturalAt line 1 % wordSpan) more index (recordAt k) j 0 (omega arith) (omega arith)
+
+  -- as code puts it: the three words, then the halves of the score
+  pub put-is : {v w y n : ℕ} → v ≡ naturalAt line 1 % wordSpan → w ≡ naturalAt line 2 % wordSpan → y ≡ naturalAt line 3 % wordSpan → n ≡ shifted (numberAt line 4)
+      → setFrom (set (set (set index (recordAt k) v) (recordAt k + 1) w) (recordAt k + 2) y) (recordAt k + 3) (halvesOf n) ≡ putRecord index k line
+  unfolding putRecord
+  put-is a b c d = let z : recordAt k + 3 + 1 ≡ recordAt k + 4 = omega arith in rw (a, b, c, d, z)

@@ -4,7 +4,7 @@ use mathlib.Core.Path.{_≡_, refl, sym, ap, _∙_}
 use mathlib.Core.Bool.{true, false}
 use mathlib.Core.List.{List, [], _∷_}
 use native.Mathlib.Omega.{arith}
-use lib.IntN.{ℤ, pos}
+use lib.IntN.{ℤ}
 use lib.ListN.{length, getD}
 use Rattle.laws.specs.Index.{latest}
 use Rattle.laws.specs.Lists.{noneTwice}
@@ -15,13 +15,13 @@ use Rattle.meaning.specs.Derivation.{isTriple, listedScore}
 use Rattle.ngrams.specs.declared.Key.{Key}
 use Rattle.ngrams.specs.declared.Score.{Score}
 use Rattle.ngrams.specs.declared.Score.the-variants.{Is, Unseen}
-use Rattle.ngrams.specs.Grams.{recordAt, keyAt, scoreAt, tripleAt, keysIn, triplesIn, sameKey, holds, scoreOf, latestScore}
+use Rattle.ngrams.specs.Grams.{keyAt, scoreAt, tripleAt, keysIn, triplesIn, sameKey, holds, scoreOf, latestScore}
 use Rattle.ngrams.proofs.Keys.{same-is, is-same}
 use Rattle.ngrams.proofs.Differ.{firsts-length, firsts-at, is-different}
 
 -- ---- the result of a search
 
-module _ (index : List ℤ) (n : ℕ) (key : Key) (at : ℕ) (e : at ≡ latest (holds index key) n) where
+module _ (index : List ℕ) (n : ℕ) (key : Key) (at : ℕ) (e : at ≡ latest (holds index key) n) where
   pub found-in : at ≤ n
   found-in = omega (arith, latest-le (holds index key) n)
 
@@ -29,8 +29,8 @@ module _ (index : List ℤ) (n : ℕ) (key : Key) (at : ℕ) (e : at ≡ latest 
   unfolding latestScore scoreOf
   unseen-score z = rw (← e, z)
 
-  pub found-score : (at ≡ 0 → ⊥) → Is (getD index (recordAt (at - 1) + 3) (pos 0)) ≡ latestScore index n key
-  unfolding latestScore scoreOf scoreAt
+  pub found-score : (at ≡ 0 → ⊥) → Is (scoreAt index (at - 1)) ≡ latestScore index n key
+  unfolding latestScore scoreOf
   found-score d = let q : at ≡ suc (at - 1) = omega (arith, d) in ap (scoreOf index) (sym q ∙ e)
 
 -- what a lookup says, with the score of an unseen triple
@@ -53,7 +53,7 @@ module _ (v w y : ℕ) (unseen : ℤ) where
 
 -- ---- the records as triples
 
-module _ (index : List ℤ) (n : ℕ) (key : Key) (unseen : ℤ) where
+module _ (index : List ℕ) (n : ℕ) (key : Key) (unseen : ℤ) where
   -- record k is the triple where it has the words
   triple-holds : (k : ℕ) → isTriple (key .v) (key .w) (key .y) (tripleAt index k) ≡ holds index key k
   unfolding holds sameKey tripleAt

@@ -1,22 +1,27 @@
 // The index of the language model's n-grams, in ONE list that holds what is known of a book, as named parts: the heads of the buckets from 0 on,
-// the links of the records from LINKS on, and the records from RECORDS on, four numbers each (v, w, y and the score). What stands from
+// the links of the records from LINKS on, and the records from RECORDS on, five numbers each (v, w, y, and the score in two halves). What stands from
 // RECORDS_END on is the caller's. A head or a link is 1 + a record's number, or 0.
 ghost use mathlib.Core.Path.{_≡_};
 ghost use mathlib.Core.Bool.{true};
-ghost use Prim.Native.Nat.{_+_, _*_, _<_, _≤_};
+ghost use Prim.Native.Nat.{_+_, _^_, _<_, _≤_};
 ghost use lib.ListN.{length};
 ghost use Rattle.laws.specs.Index.{latest};
 ghost use Rattle.laws.specs.Lists.{noneTwice};
 ghost use Rattle.meaning.specs.Derivation.{listedScore};
-ghost use Rattle.ngrams.specs.Parts.{bucketCount, naturalIn};
-ghost use Rattle.ngrams.specs.Grams.{recordAt, keyAt, keysIn, triplesIn, putRecord, sameKey, holds, bucketOf, Room, Indexed, Cleared, Inserted, earlierAlike, Compared, latestScore};
+ghost use Rattle.ngrams.specs.Parts.{bucketCount};
+ghost use Rattle.ngrams.specs.Grams.{recordAt, keyAt, scoreAt, shifted, keysIn, triplesIn, putRecord, sameKey, holds, bucketOf, Room, Indexed, Cleared, Inserted, earlierAlike, Compared, latestScore};
 
 // How many buckets there are, how many records there may be, and how many numbers a record has.
 const BUCKETS: usize = 8192;
 
 pub const RECORDS_MOST: usize = 8192;
 
-const RECORD_SIZE: usize = 4;
+const RECORD_SIZE: usize = 5;
+
+// The numbers from 0, the start symbol, to the last word; and what is added to a signed number that stands in the list.
+const WORD_SPAN: usize = 65536;
+
+const SIGN_SHIFT: i64 = 2147483648;
 
 // Where the links begin, where the records begin, and where they end.
 const LINKS: usize = BUCKETS;
@@ -34,42 +39,34 @@ pub struct Key {
 
 // What a lookup answers: the score of the n-gram, or that no record is that n-gram.
 pub enum Score {
-    Is(i32),
+    Is(i64),
     Unseen,
 }
 
 // ---- the parts of the list
 
-// Number k of the list: 0 where it is negative.
-pub fn natural_in(index: &[i32], k: usize) -> usize
-    requires { ⌜ k < length (now index) ⌝ }
-    ensures { λ r. ⌜ r ≡ naturalIn (now (index .entry)) k ⌝ }
-{
-    lines::natural(index[k])
-}
-
 // The words of record k.
-fn key_at(index: &[i32], k: usize) -> Key
+fn key_at(index: &[u16], k: usize) -> Key
     requires { ⌜ recordAt (k + 1) ≤ length (now index) ⌝ }
     ensures { λ r. ⌜ r ≡ keyAt (now (index .entry)) k ⌝ }
 {
     let at = RECORDS + RECORD_SIZE * k;
     Key {
-        v: natural_in(index, at),
-        w: natural_in(index, at + 1),
-        y: natural_in(index, at + 2),
+        v: halves::number_at(index, at),
+        w: halves::number_at(index, at + 1),
+        y: halves::number_at(index, at + 2),
     }
 }
 
 // Has record k the words of the key? They are read one by one, as far as they agree.
-fn is_key(index: &[i32], k: usize, key: Key) -> bool
+fn is_key(index: &[u16], k: usize, key: Key) -> bool
     requires { ⌜ recordAt (k + 1) ≤ length (now index) ⌝ }
     ensures { λ r. ⌜ r ≡ holds (now (index .entry)) key k ⌝ }
 {
     let at = RECORDS + RECORD_SIZE * k;
-    if natural_in(index, at) == key.v {
-        if natural_in(index, at + 1) == key.w {
-            return natural_in(index, at + 2) == key.y;
+    if halves::number_at(index, at) == key.v {
+        if halves::number_at(index, at + 1) == key.w {
+            return halves::number_at(index, at + 2) == key.y;
         }
     }
     false
@@ -79,42 +76,48 @@ fn is_key(index: &[i32], k: usize, key: Key) -> bool
 fn bucket(key: Key) -> usize
     ensures { λ r. ⌜ (r ≡ bucketOf key) × (r < bucketCount) ⌝ }
 {
-    ((key.v % 65536) * 40503 + (key.w % 65536) * 60493 + (key.y % 65536) * 25717) / 16 % BUCKETS
+    ((key.v % WORD_SPAN) * 40503 + (key.w % WORD_SPAN) * 60493 + (key.y % WORD_SPAN) * 25717) / 16 % BUCKETS
 }
 
 // Walks the chain of the key's bucket: 1 + the latest of the first `count` records that has its words, or 0.
-fn find(index: &[i32], count: usize, key: Key) -> usize
+fn find(index: &[u16], count: usize, key: Key) -> usize
     requires { ⌜ Indexed (now index) count ⌝ }
     ensures { λ r. ⌜ r ≡ latest (holds (now (index .entry)) key) count ⌝ }
 {
-    let mut link = index[bucket(key)];
-    while link > 0 {
-        let at = link as usize;
+    let mut at = halves::number_at(index, bucket(key));
+    while at > 0 {
         let k = at - 1;
         if is_key(index, k, key) {
             return at;
         }
-        link = index[LINKS + k];
+        at = halves::number_at(index, LINKS + k);
     }
     0
 }
 
 // ---- the writers: each says from where on the list is as it was
 
-// The numbers of an n-gram's line, put as record k.
-pub fn put_record(index: &mut [i32], k: usize, line: &[i32])
+// A signed number as the natural one that stands for it.
+fn shifted(x: i32) -> usize
+    ensures { λ r. ⌜ (r ≡ shifted x) × (r < 2 ^ 32) ⌝ }
+{
+    (x as i64 + SIGN_SHIFT) as usize
+}
+
+// The record of a T line, put as record k.
+pub fn put_record(index: &mut [u16], k: usize, line: &[i32])
     requires { ⌜ recordAt (k + 1) ≤ length (now index) ⌝ }
     ensures { λ _. ⌜ now (index .exit) ≡ putRecord (now (index .entry)) k (now (line .entry)) ⌝ }
 {
     let at = RECORDS + RECORD_SIZE * k;
-    index[at] = lines::number_at(line, 1);
-    index[at + 1] = lines::number_at(line, 2);
-    index[at + 2] = lines::number_at(line, 3);
-    index[at + 3] = lines::number_at(line, 4);
+    index[at] = lines::word_at(line, 1);
+    index[at + 1] = lines::word_at(line, 2);
+    index[at + 2] = lines::word_at(line, 3);
+    halves::put_whole(index, at + 3, shifted(lines::number_at(line, 4)));
 }
 
 // No head: every bucket is empty.
-fn clear(index: &mut [i32])
+fn clear(index: &mut [u16])
     requires { ⌜ bucketCount ≤ length (now index) ⌝ }
     ensures { λ _. ⌜ Cleared (now (index .entry)) (now (index .exit)) ⌝ }
 {
@@ -126,18 +129,18 @@ fn clear(index: &mut [i32])
 }
 
 // Puts record i before the others of its bucket.
-fn insert(index: &mut [i32], i: usize)
+fn insert(index: &mut [u16], i: usize)
     requires { ⌜ Indexed (now index) i ⌝ }
     requires { ⌜ Room (now index) (i + 1) ⌝ }
     ensures { λ _. ⌜ Inserted (now (index .entry)) (now (index .exit)) i ⌝ }
 {
     let h = bucket(key_at(index, i));
     index[LINKS + i] = index[h];
-    index[h] = (i + 1) as i32;
+    index[h] = (i + 1) as u16;
 }
 
 // 1 + the latest record before record i that has its words, or 0.
-fn earlier_alike(index: &[i32], i: usize) -> usize
+fn earlier_alike(index: &[u16], i: usize) -> usize
     requires { ⌜ Indexed (now index) i ⌝ }
     requires { ⌜ Room (now index) (i + 1) ⌝ }
     ensures { λ r. ⌜ r ≡ earlierAlike (now (index .entry)) i ⌝ }
@@ -146,7 +149,7 @@ fn earlier_alike(index: &[i32], i: usize) -> usize
 }
 
 // Do the words of the first `count` records differ? Where that is so, the list is left as their index. The records stay.
-pub fn all_different(index: &mut [i32], count: usize) -> bool
+pub fn all_different(index: &mut [u16], count: usize) -> bool
     requires { ⌜ Room (now index) count ⌝ }
     ensures { λ r. ⌜ Compared (now (index .entry)) (now (index .exit)) count r ⌝ }
 {
@@ -164,8 +167,16 @@ pub fn all_different(index: &mut [i32], count: usize) -> bool
 
 // ---- the readers
 
+// The score of record k.
+fn score_at(index: &[u16], k: usize) -> i64
+    requires { ⌜ recordAt (k + 1) ≤ length (now index) ⌝ }
+    ensures { λ r. ⌜ r ≡ scoreAt (now (index .entry)) k ⌝ }
+{
+    halves::whole_at(index, RECORDS + RECORD_SIZE * k + 3) as i64 - SIGN_SHIFT
+}
+
 // The score of the latest of the first `count` records that has the words of the key.
-pub fn lookup(index: &[i32], count: usize, key: Key) -> Score
+pub fn lookup(index: &[u16], count: usize, key: Key) -> Score
     requires { ⌜ Indexed (now index) count ⌝ }
     ensures { λ r. ⌜ r ≡ latestScore (now (index .entry)) count key ⌝ }
 {
@@ -173,11 +184,11 @@ pub fn lookup(index: &[i32], count: usize, key: Key) -> Score
     if at == 0 {
         return Score::Unseen;
     }
-    Score::Is(index[RECORDS + RECORD_SIZE * (at - 1) + 3])
+    Score::Is(score_at(index, at - 1))
 }
 
 // The score of a triple in the language model: that of its T line, or `unseen` where it has none.
-pub fn triple_score(index: &[i32], count: usize, unseen: i64, key: Key) -> i64
+pub fn triple_score(index: &[u16], count: usize, unseen: i64, key: Key) -> i64
     requires { ⌜ Indexed (now index) count ⌝ }
     requires { ⌜ noneTwice sameKey (keysIn (now index) count) ≡ true ⌝ }
     ensures { λ r. ⌜ r ≡ listedScore (key .v) (key .w) (key .y) unseen (triplesIn (now (index .entry)) count) ⌝ }
@@ -185,5 +196,5 @@ pub fn triple_score(index: &[i32], count: usize, unseen: i64, key: Key) -> i64
     let Score::Is(s) = lookup(index, count, key) else {
         return unseen;
     };
-    s as i64
+    s
 }

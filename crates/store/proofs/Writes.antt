@@ -11,7 +11,8 @@ use lib.ListN.{length, getD, set, length-set}
 use lib.Seq.{getD-set-same, getD-set-other}
 use borrow.Author.Tests.{eq-eqb, ne-eqb}
 use Rattle.laws.specs.Integers.{natOf}
-use Rattle.laws.proofs.Fields.{setFrom, from-long, from-far, from-first, from-near}
+use Rattle.laws.specs.Lists.{setFrom}
+use Rattle.laws.proofs.Fields.{from-long, from-far, from-first, from-near}
 use Rattle.laws.proofs.Tests.{and-first, and-second}
 use Rattle.meaning.specs.declared.State.{State}
 use Rattle.store.specs.Store.{placeAt, headAt, linkAt, wordsOf, Storable, Put, Spare, Relinked, isSame, Zeroed}

@@ -3,7 +3,6 @@ use native.Mathlib.Omega.{arith}
 use borrow.Author.Needs.{needs}
 use Prim.Native.Nat.{ℕ, _≤_, _<_, _-_}
 use mathlib.Core.Path.{_≡_}
-use lib.IntN.{pos}
 use Rattle.ngrams.specs.Parts.{bucketCount, headAt, KeptFrom}
 use Rattle.ngrams.proofs.Parts.{kept-all, kept-set, kept-then}
 use Rattle.ngrams.proofs.Index.{heads-none}
@@ -22,8 +21,8 @@ loop-holds c = (omega arith, λ j l. absurd (omega arith), kept-all bucketCount 
 mul-index : tie.Need-mul-index Inv-loop μ-loop
 mul-index c = omega (arith, c .before .loop .inv .2 .size)
 
-slice-set-of-index : tie.Need-slice-set-of-index Inv-loop μ-loop
-slice-set-of-index c = omega (arith, c .before .loop .inv .2 .size)
+slice-write-index : tie.Need-slice-write-index Inv-loop μ-loop
+slice-write-index c = omega (arith, c .before .loop .inv .2 .size)
 
 add-k : tie.Need-add-k Inv-loop μ-loop
 add-k c = search needs
@@ -34,7 +33,7 @@ loop-less c = search needs
 loop-again : tie.Need-loop-again Inv-loop μ-loop
 loop-again c =
     let i = c .before .loop .inv in
-    (omega arith, heads-none (c .before .loop .index) (c .before .loop .k) (i .1) (omega (arith, i .2 .size)), kept-then (omega arith) (i .2) (kept-set (c .before .loop .index) (c .before .loop .k) (pos 0) (omega arith)))
+    (omega arith, heads-none (c .before .loop .index) (c .before .loop .k) (i .1) (omega (arith, i .2 .size)), kept-then (omega arith) (i .2) (kept-set (c .before .loop .index) (c .before .loop .k) 0 (omega arith)))
 
 same-length : tie.Need-same-length Inv-loop μ-loop
 same-length c = c .before .loop .inv .2 .size
@@ -50,7 +49,7 @@ clear-spec =
     μ-loop
     loop-holds
     mul-index
-    slice-set-of-index
+    slice-write-index
     add-k
     loop-less
     loop-again

@@ -1,13 +1,7 @@
 -- The record's link is its bucket's old head, and the head is the record: the index of one record more.
+use mathlib.Core.Path.{ap, _∙_}
 use native.Mathlib.Omega.{arith}
-use Prim.Native.Nat.{_+_}
-use mathlib.Core.Path.{_≡_, ap, _∙_}
-use lib.IntN.{pos}
-use lib.ListN.{getD, length-set}
-use mir.Facts.{toZ-pos}
-use mir.Syntax.{w32}
-use mir.Val.{toZ}
-use Rattle.laws.proofs.Integers.{back}
+use lib.ListN.{length-set}
 use Rattle.ngrams.specs.Grams.{bucketOf}
 use Rattle.ngrams.proofs.Index.{index-more}
 use borrow.Author.Needs.{needs}
@@ -23,8 +17,8 @@ bucket-requires c κs = search needs
 mul-index : tie.Need-mul-index
 mul-index c = search needs
 
-slice-copy-out-index : tie.Need-slice-copy-out-index
-slice-copy-out-index c = search needs
+slice-read-index : tie.Need-slice-read-index
+slice-read-index c = search needs
 
 add-index : tie.Need-add-index
 add-index c = search needs
@@ -32,8 +26,8 @@ add-index c = search needs
 mul-index-2 : tie.Need-mul-index-2
 mul-index-2 c = search needs
 
-slice-set-from-index : tie.Need-slice-set-from-index
-slice-set-from-index c = search needs
+slice-write-index : tie.Need-slice-write-index
+slice-write-index c = search needs
 
 add-index-2 : tie.Need-add-index-2
 add-index-2 c = search needs
@@ -41,21 +35,19 @@ add-index-2 c = search needs
 cast-index : tie.Need-cast-index
 cast-index c = search needs
 
-mul-t11 : tie.Need-mul-t11
-mul-t11 c = search needs
+mul-index-3 : tie.Need-mul-index-3
+mul-index-3 c = search needs
 
-slice-set-from-index-2 : tie.Need-slice-set-from-index-2
-slice-set-from-index-2 c = simp length-set (omega (arith, c .before .bucket .ensures .1))
+slice-write-index-2 : tie.Need-slice-write-index-2
+slice-write-index-2 c = simp length-set (omega (arith, c .before .bucket .ensures .1))
 
 same-length : tie.Need-same-length
 same-length c = search needs
 
 returns : tie.Need-returns
 returns c =
-    let s = c .before .before .before .before in
-    let stored : toZ w32 (s .args .i + 1) ≡ pos (s .args .i + 1) = (let f = s .pre .1 .few in toZ-pos w32 (omega arith)) in
-    rw (back w32 (getD (s .args .index .now) (c .before .bucket .result) (pos 0)) (c .index .given), stored)
-    (index-more (s .pre .0) (s .pre .1) (c .before .bucket .ensures .0 ∙ ap bucketOf (c .before .before .key-at .ensures)) (c .before .bucket .ensures .1))
+    let s = c .before .before .before .before .before in
+    index-more (s .pre .0) (s .pre .1) (c .before .bucket .ensures .0 ∙ ap bucketOf (c .before .before .key-at .ensures)) (c .before .bucket .ensures .1)
 
 pub insert-spec : {M : Type 1} → statement M
 insert-spec =
@@ -64,13 +56,13 @@ insert-spec =
     key-at-requires
     bucket-requires
     mul-index
-    slice-copy-out-index
+    slice-read-index
     add-index
     mul-index-2
-    slice-set-from-index
+    slice-write-index
     add-index-2
     cast-index
-    mul-t11
-    slice-set-from-index-2
+    mul-index-3
+    slice-write-index-2
     same-length
     returns)

@@ -10,20 +10,20 @@ mul-at c = search needs
 add-at : tie.Need-add-at
 add-at c = search needs
 
-natural-in-requires : tie.Need-natural-in-requires
-natural-in-requires c κs = search needs
+number-at-requires : tie.Need-number-at-requires
+number-at-requires c κs = search needs
 
-add-natural-in : tie.Need-add-natural-in
-add-natural-in c = search needs
+add-number-at : tie.Need-add-number-at
+add-number-at c = search needs
 
-natural-in-requires-2 : tie.Need-natural-in-requires-2
-natural-in-requires-2 c κs = search needs
+number-at-requires-2 : tie.Need-number-at-requires-2
+number-at-requires-2 c κs = search needs
 
-add-natural-in-2 : tie.Need-add-natural-in-2
-add-natural-in-2 c = search needs
+add-number-at-2 : tie.Need-add-number-at-2
+add-number-at-2 c = search needs
 
-natural-in-requires-3 : tie.Need-natural-in-requires-3
-natural-in-requires-3 c κs = search needs
+number-at-requires-3 : tie.Need-number-at-requires-3
+number-at-requires-3 c κs = search needs
 
 returns : tie.Need-returns
 unfolding keyAt
@@ -35,9 +35,9 @@ key-at-spec =
     (tie.spec
     mul-at
     add-at
-    natural-in-requires
-    add-natural-in
-    natural-in-requires-2
-    add-natural-in-2
-    natural-in-requires-3
+    number-at-requires
+    add-number-at
+    number-at-requires-2
+    add-number-at-2
+    number-at-requires-3
     returns)

@@ -1,10 +1,11 @@
--- The four stores are the definition's, with each number read back of its bits.
-use mathlib.Core.Path.{_∙_}
+-- The stores are those of the definition: three words, then the two halves.
 use native.Mathlib.Omega.{arith}
-use lib.ListN.{length-set}
+use mathlib.Core.Path.{_≡_, ap, _∙_}
+use lib.ListN.{length, length-set}
 use mir.Syntax.{w32}
 use Rattle.laws.proofs.Integers.{back}
-use Rattle.ngrams.specs.Grams.{putRecord}
+use Rattle.ngrams.specs.Grams.{shifted, putRecord}
+use Rattle.ngrams.proofs.Records.{put-long, put-is}
 use borrow.Author.Needs.{needs}
 use Rattle.ngrams.proofs.put_record.Statement.{statement}
 use Rattle.ngrams.proofs.put_record.Tie as tie
@@ -15,17 +16,17 @@ mul-at c = search needs
 add-at : tie.Need-add-at
 add-at c = search needs
 
-number-at-requires : tie.Need-number-at-requires
-number-at-requires c κs = search needs
+word-at-requires : tie.Need-word-at-requires
+word-at-requires c κs = search needs
 
 mul-index : tie.Need-mul-index
 mul-index c = search needs
 
-slice-set-from-index : tie.Need-slice-set-from-index
-slice-set-from-index c = search needs
+slice-write-index : tie.Need-slice-write-index
+slice-write-index c = search needs
 
-number-at-requires-2 : tie.Need-number-at-requires-2
-number-at-requires-2 c κs = search needs
+word-at-requires-2 : tie.Need-word-at-requires-2
+word-at-requires-2 c κs = search needs
 
 add-index : tie.Need-add-index
 add-index c = search needs
@@ -33,11 +34,11 @@ add-index c = search needs
 mul-index-2 : tie.Need-mul-index-2
 mul-index-2 c = search needs
 
-slice-set-from-index-2 : tie.Need-slice-set-from-index-2
-slice-set-from-index-2 c = simp length-set (omega arith)
+slice-write-index-2 : tie.Need-slice-write-index-2
+slice-write-index-2 c = simp length-set (omega arith)
 
-number-at-requires-3 : tie.Need-number-at-requires-3
-number-at-requires-3 c κs = search needs
+word-at-requires-3 : tie.Need-word-at-requires-3
+word-at-requires-3 c κs = search needs
 
 add-index-2 : tie.Need-add-index-2
 add-index-2 c = search needs
@@ -45,33 +46,41 @@ add-index-2 c = search needs
 mul-index-3 : tie.Need-mul-index-3
 mul-index-3 c = search needs
 
-slice-set-from-index-3 : tie.Need-slice-set-from-index-3
-slice-set-from-index-3 c = simp length-set (omega arith)
+slice-write-index-3 : tie.Need-slice-write-index-3
+slice-write-index-3 c = simp length-set (omega arith)
 
-number-at-requires-4 : tie.Need-number-at-requires-4
-number-at-requires-4 c κs = search needs
+add-put-whole : tie.Need-add-put-whole
+add-put-whole c = search needs
 
-add-t5 : tie.Need-add-t5
-add-t5 c = search needs
+number-at-requires : tie.Need-number-at-requires
+number-at-requires c κs = search needs
 
-mul-t8 : tie.Need-mul-t8
-mul-t8 c = search needs
+shifted-requires : tie.Need-shifted-requires
+shifted-requires c κs = search needs
 
-slice-set-from-index-4 : tie.Need-slice-set-from-index-4
-slice-set-from-index-4 c = simp length-set (omega arith)
+put-whole-requires : tie.Need-put-whole-requires
+put-whole-requires c κs = simp length-set (omega arith, c .shifted .ensures .1)
+
+-- what was stored
+stored : (c : tie.After-slice-known2)
+    → let s = c .before .before .before .before .before .before .before .before .before .before .args in
+    c .before .before .put-whole .last .0 ≡ putRecord (s .index .now) (s .k) (s .line .now)
+stored c =
+    let s = c .before .before .before .before .before .before .before .before .before .before .args in
+    c .before .before .put-whole .ensures
+    ∙ put-is (s .index .now) (s .line .now) (s .k)
+    (c .before .before .before .before .before .before .before .before .word-at .ensures)
+    (c .before .before .before .before .before .before .before .word-at2 .ensures)
+    (c .before .before .before .before .before .before .word-at3 .ensures)
+    (c .before .before .before .shifted .ensures .0 ∙ ap shifted (back w32 (c .before .before .before .before .number-at .result) (c .before .before .before .before .number-at .ok) ∙ c .before .before .before .before .number-at .ensures))
 
 same-length : tie.Need-same-length
-same-length c = search needs
+same-length c =
+    let s = c .before .before .before .before .before .before .before .before .before .before .args in
+    ap length (stored c) ∙ put-long (s .index .now) (s .line .now) (s .k)
 
 returns : tie.Need-returns
-unfolding putRecord
-returns c =
-    rw (
-      back w32 (c .before .before .before .number-at .result) (c .before .before .before .number-at .ok) ∙ c .before .before .before .number-at .ensures,
-      back w32 (c .before .before .number-at2 .result) (c .before .before .number-at2 .ok) ∙ c .before .before .number-at2 .ensures,
-      back w32 (c .before .number-at3 .result) (c .before .number-at3 .ok) ∙ c .before .number-at3 .ensures,
-      back w32 (c .number-at4 .result) (c .number-at4 .ok) ∙ c .number-at4 .ensures,
-    )
+returns c = stored c
 
 pub put-record-spec : {M : Type 1} → statement M
 put-record-spec =
@@ -79,20 +88,20 @@ put-record-spec =
     (tie.spec
     mul-at
     add-at
-    number-at-requires
+    word-at-requires
     mul-index
-    slice-set-from-index
-    number-at-requires-2
+    slice-write-index
+    word-at-requires-2
     add-index
     mul-index-2
-    slice-set-from-index-2
-    number-at-requires-3
+    slice-write-index-2
+    word-at-requires-3
     add-index-2
     mul-index-3
-    slice-set-from-index-3
-    number-at-requires-4
-    add-t5
-    mul-t8
-    slice-set-from-index-4
+    slice-write-index-3
+    add-put-whole
+    number-at-requires
+    shifted-requires
+    put-whole-requires
     same-length
     returns)

@@ -2,10 +2,8 @@
 use mathlib.Core.Path.{sym, ap, _∙_}
 use borrow.Author.Needs.{needs}
 use mir.Facts.{toZ-ofZ}
-use mir.Syntax.{w32}
+use mir.Syntax.{w64}
 use mir.Val.{SFits}
-use Rattle.laws.proofs.Got.{i64}
-use Rattle.laws.proofs.Linear.{wide}
 use Rattle.ngrams.proofs.Scores.{scoreOr, latest-listed}
 use Rattle.ngrams.proofs.triple_score.Statement.{statement}
 use Rattle.ngrams.proofs.triple_score.Tie as tie
@@ -21,25 +19,22 @@ enum-told c = search needs
 
 returns : tie.Need-returns
 returns c =
-    let s = c .before .before .before in
+    let s = c .before .before .before .before in
     toZ-ofZ (s .fits .unseen)
     ∙ ap (scoreOr (s .args .unseen)) (sym (c .enum-told .given .1) ∙ c .before .before .lookup .ensures)
     ∙ latest-listed (s .args .index .now) (s .args .count) (s .args .key) (s .args .unseen) (s .pre .1)
 
-fit : (c : tie.After-known-told) → SFits w32 (c .before .s .given .0 .0)
+fit : (c : tie.After-known-told) → SFits w64 (c .before .s .given .0 .0)
 fit c = search needs
-
-cast-result : tie.Need-cast-result
-cast-result c = rw (toZ-ofZ (fit c)) (wide (fit c))
 
 -- the score that was found
 returns-2 : tie.Need-returns-2
 returns-2 c =
-    let s = c .before .before .before .before in
-    ap i64 (toZ-ofZ (fit c)) ∙ toZ-ofZ (wide (fit c))
+    let s = c .before .before .before .before .before in
+    toZ-ofZ (fit c)
     ∙ ap (scoreOr (s .args .unseen)) (sym (c .before .s .given .1) ∙ c .before .before .before .lookup .ensures)
     ∙ latest-listed (s .args .index .now) (s .args .count) (s .args .key) (s .args .unseen) (s .pre .1)
 
 pub triple-score-spec : {M : Type 1} → statement M
 triple-score-spec =
-    tie.close (tie.spec lookup-requires enum-known-s enum-told returns cast-result returns-2)
+    tie.close (tie.spec lookup-requires enum-known-s enum-told returns returns-2)
