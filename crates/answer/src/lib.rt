@@ -46,7 +46,7 @@ fn position_of(options: &[u16], n: usize, o: usize) -> usize
 fn step_of(
     book: &[i32],
     direction: &[u16],
-    index: &[i32],
+    index: &[u16],
     options: &[u16],
     t: Setup,
     o: usize,
@@ -82,7 +82,7 @@ fn copy_words(book: &[i32], p: Phrase, words: &mut [u16])
 fn steps_of(
     book: &[i32],
     direction: &[u16],
-    index: &[i32],
+    index: &[u16],
     options: &[u16],
     t: Setup,
     way: &[usize],
@@ -106,7 +106,7 @@ fn steps_of(
 // Document 01's form: the rest of the word list, from the current count, is lent on to the copier of one entry's words.
 fn write_words(
     book: &[i32],
-    index: &[i32],
+    index: &[u16],
     phrases: usize,
     plain: Plain,
     words: &mut [u16],
@@ -141,7 +141,7 @@ pub fn trace(
     best: Best,
     book: &[i32],
     direction: &[u16],
-    index: &[i32],
+    index: &[u16],
     options: &[u16],
     t: Setup,
     words: &mut [u16],

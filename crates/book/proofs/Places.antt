@@ -7,20 +7,23 @@ use mathlib.Core.List.{List, [], _∷_, map, dropLast}
 use borrow.Author.Tests.{leb-true, eqb-true, eqb-false}
 use lib.Dec.{eqb, leb}
 use lib.IntN.{ℤ, pos}
-use lib.ListN.{length, getD, take, drop, set, length-drop, length-map, drop-of-length-le, List·getD-map}
-use lib.Seq.{getD-drop, drop-drop, getD-set-same, getD-set-other}
+use lib.ListN.{length, getD, take, drop, length-drop, length-map, drop-of-length-le, List·getD-map}
+use lib.Seq.{getD-drop, drop-drop}
 use Rattle.laws.specs.Bits.{one}
 use Rattle.laws.specs.Integers.{Within, natOf}
-use Rattle.laws.specs.Lists.{all, keep, count}
+use Rattle.laws.specs.Lists.{all, keep, count, setFrom}
+use Rattle.laws.proofs.Fields.{from-long}
 use Rattle.laws.proofs.Lists.{all-at, part-part, dropLast-length, dropLast-getD, keep-length}
 use Rattle.laws.proofs.Tests.{by-test, both}
 use Rattle.meaning.specs.Bounds.{scoreMost}
 use Rattle.meaning.specs.Book.{InList, Entry, numberAt, naturalAt, isP, isPhraseWord, isWhole, isInRange, isNotTooLong, wordsAt, entryOf, bookOf, bookOfLines, bookRefusal, loadedLines}
 use Rattle.meaning.specs.Derivation.{noEntry}
 use Rattle.meaning.proofs.Ranges.{lines-passed, PLine, p-line}
-use Rattle.ngrams.specs.Parts.{naturalIn, KeptBelow}
-use Rattle.ngrams.proofs.Parts.{below-all, below-set}
-use Rattle.book.specs.Entries.{EntryAt, entriesMost, entriesFrom, indexSize, entryPlace, EntriesAt, withPlace}
+use Rattle.halves.specs.Halves.{halvesOf}
+use Rattle.halves.proofs.Halves.{put-here, put-other, whole-same}
+use Rattle.ngrams.specs.Parts.{KeptBelow}
+use Rattle.ngrams.proofs.Parts.{below-all}
+use Rattle.book.specs.Entries.{EntryAt, entriesMost, entriesFrom, indexSize, entryHalves, entryPlace, EntriesAt, withPlace}
 use Rattle.book.proofs.Cuts.{LineAt, lines-end, line-number, line-long, kind-same}
 
 -- ---- a line's numbers, read in the list
@@ -117,17 +120,18 @@ module _ (loaded : List ℤ) (at size : ℕ) (l : LineAt loaded at size) (p : is
 
 -- ---- one place that is noted
 
-place-same : (index : List ℤ) (count at : ℕ) → entriesFrom + count < length index → entryPlace (set index (entriesFrom + count) (pos at)) count ≡ at
-unfolding entryPlace naturalIn
-place-same index count at h = ap natOf (getD-set-same index (entriesFrom + count) (pos at) (pos 0) h)
+place-same : (index : List ℕ) (count at : ℕ) → entryHalves count + 1 < length index → entryPlace (setFrom index (entryHalves count) (halvesOf at)) count ≡ at
+unfolding entryPlace
+place-same index count at h = put-here index (entryHalves count) at h
 
-place-other : (index : List ℤ) (count k at : ℕ) → (k ≡ count → ⊥) → entryPlace (set index (entriesFrom + count) (pos at)) k ≡ entryPlace index k
-unfolding entryPlace naturalIn
-place-other index count k at n = ap natOf (getD-set-other index (entriesFrom + count) (entriesFrom + k) (pos at) (pos 0) (omega (arith, n)))
+place-other : (index : List ℕ) (count k at : ℕ) → (k ≡ count → ⊥) → entryPlace (setFrom index (entryHalves count) (halvesOf at)) k ≡ entryPlace index k
+unfolding entryPlace
+place-other index count k at n =
+    whole-same index (setFrom index (entryHalves count) (halvesOf at)) (entryHalves k) (put-other index (entryHalves count) at (entryHalves k) (λ h. omega (arith, n, h))) (put-other index (entryHalves count) at (entryHalves k + 1) (λ h. omega (arith, n, h)))
 
 -- ---- the walk: the places of the P lines before `at` are found
 
-pub record Found (loaded : List ℤ) (index : List ℤ) (count at : ℕ) : Type 0 where
+pub record Found (loaded : List ℤ) (index : List ℕ) (count at : ℕ) : Type 0 where
   pub inside : at ≤ length loaded
   pub some : count ≤ length (keep isP (loadedLines loaded))
   pub few : length (keep isP (loadedLines loaded)) ≤ entriesMost
@@ -136,7 +140,7 @@ pub record Found (loaded : List ℤ) (index : List ℤ) (count at : ℕ) : Type 
   pub ranged : all isInRange (loadedLines (drop at loaded)) ≡ true
   pub each : (k : ℕ) → k < count → EntryAt loaded (entryPlace index k) (entryOf (getD (keep isP (loadedLines loaded)) k []))
 
-pub found-start : (loaded : List ℤ) (index : List ℤ) → bookRefusal loaded ≡ 0 → Found loaded index 0 0
+pub found-start : (loaded : List ℤ) (index : List ℕ) → bookRefusal loaded ≡ 0 → Found loaded index 0 0
 unfolding bookRefusal isNotTooLong
 found-start loaded index e =
     let p = lines-passed InList (loadedLines loaded) e in
@@ -151,7 +155,7 @@ found-start loaded index e =
       each = λ k h. absurd (omega arith);
     }
 
-module _ {loaded : List ℤ} {index : List ℤ} {count at size : ℕ} (f : Found loaded index count at) (l : LineAt loaded at size) where
+module _ {loaded : List ℤ} {index : List ℕ} {count at size : ℕ} (f : Found loaded index count at) (l : LineAt loaded at size) where
   split : all isInRange (loadedLines (drop at loaded)) ≡ isInRange (take size (drop at loaded)) && all isInRange (loadedLines (drop (at + size) loaded))
   split = ap (all isInRange) (l .lines)
 
@@ -182,11 +186,11 @@ module _ {loaded : List ℤ} {index : List ℤ} {count at size : ℕ} (f : Found
   tail-next : isP (drop at loaded) ≡ true → drop (count + 1) (keep isP (loadedLines loaded)) ≡ keep isP (loadedLines (drop (at + size) loaded))
   tail-next p = sym (drop-drop 1 count (keep isP (loadedLines loaded))) ∙ ap (drop 1) (next-p p)
 
-  each-next : isP (drop at loaded) ≡ true → indexSize ≤ length index → (k : ℕ) → k < count + 1 → EntryAt loaded (entryPlace (set index (entriesFrom + count) (pos at)) k) (entryOf (getD (keep isP (loadedLines loaded)) k []))
+  each-next : isP (drop at loaded) ≡ true → indexSize ≤ length index → (k : ℕ) → k < count + 1 → EntryAt loaded (entryPlace (setFrom index (entryHalves count) (halvesOf at)) k) (entryOf (getD (keep isP (loadedLines loaded)) k []))
   each-next p h k m =
       by-test (eqb k count)
       (λ t. let e : k ≡ count = eqb-true k count t in
-      let room : entriesFrom + count < length index = omega (arith, found-room p, f .few) in
+      let room : entryHalves count + 1 < length index = omega (arith, found-room p, f .few) in
       rw (e, place-same index count at room, entry-next p)
       (entry-at loaded at size l (kind-same loaded at size l ∙ p) range-here))
       (λ n. rw (place-other index count k at (eqb-false k count n)) (f .each k (let q = eqb-false k count n in omega (arith, q))))
@@ -220,7 +224,7 @@ no-entry : entryOf [] ≡ noEntry
 unfolding entryOf
 no-entry = refl
 
-pub found-end : {loaded : List ℤ} {index : List ℤ} {count at : ℕ} → Found loaded index count at → length loaded ≤ at → indexSize ≤ length index → EntriesAt loaded index count
+pub found-end : {loaded : List ℤ} {index : List ℕ} {count at : ℕ} → Found loaded index count at → length loaded ≤ at → indexSize ≤ length index → EntriesAt loaded index count
 unfolding bookOf bookOfLines
 found-end {loaded} {index} {count} {at} f h room =
     let none : drop count (keep isP (loadedLines loaded)) ≡ [] = f .tail ∙ ap (λ (l : List ℤ). keep isP (loadedLines l)) (drop-of-length-le loaded h) ∙ ap (keep isP) lines-end in
@@ -236,20 +240,20 @@ found-end {loaded} {index} {count} {at} f h room =
 
 -- ---- what code puts
 
-pub place-put : (loaded : List ℤ) (at : ℕ) (index : List ℤ) (count : ℕ) → isP (drop at loaded) ≡ true
-    → (count + 1 ≡ count + one (isP (drop at loaded))) × (set index (entriesFrom + count) (pos at) ≡ withPlace loaded at index count)
+pub place-put : (loaded : List ℤ) (at : ℕ) (index : List ℕ) (count : ℕ) → isP (drop at loaded) ≡ true
+    → (count + 1 ≡ count + one (isP (drop at loaded))) × (setFrom index (entryHalves count) (halvesOf at) ≡ withPlace loaded at index count)
 unfolding withPlace
 place-put loaded at index count p = (rw p, rw p)
 
-pub place-not : (loaded : List ℤ) (at : ℕ) (index : List ℤ) (count : ℕ) → isP (drop at loaded) ≡ false
+pub place-not : (loaded : List ℤ) (at : ℕ) (index : List ℕ) (count : ℕ) → isP (drop at loaded) ≡ false
     → (count ≡ count + one (isP (drop at loaded))) × (index ≡ withPlace loaded at index count)
 unfolding withPlace
 place-not loaded at index count p = (rw p (omega arith), rw p)
 
 -- what stands before the places is kept
-pub place-kept : (loaded index : List ℤ) (at count : ℕ) → KeptBelow entriesFrom index (withPlace loaded at index count)
+pub place-kept : (loaded : List ℤ) (index : List ℕ) (at count : ℕ) → KeptBelow entriesFrom index (withPlace loaded at index count)
 unfolding withPlace
 place-kept loaded index at count =
     by-test (isP (drop at loaded))
-    (λ t. rw t (below-set index (entriesFrom + count) (pos at) (omega arith)))
+    (λ t. rw t (record { size = from-long index (entryHalves count) (halvesOf at); at = λ j m. put-other index (entryHalves count) at j (λ h. absurd (omega arith)) }))
     (λ f. rw f (below-all entriesFrom index))

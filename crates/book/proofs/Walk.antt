@@ -16,7 +16,7 @@ use Rattle.book.proofs.Triples.{gram-long}
 use Rattle.book.proofs.Cuts.{LineAt, lines-end}
 
 -- the invariant: the lines before `at` were noted in `acc` and `index`
-pub record Walked (loaded index₀ : List ℤ) (acc : Survey) (index : List ℤ) (at : ℕ) : Type 0 where
+pub record Walked (loaded : List ℤ) (index₀ : List ℕ) (acc : Survey) (index : List ℕ) (at : ℕ) : Type 0 where
   pub inside : at ≤ length loaded
   pub few : Few acc at
   pub long : length index ≡ length index₀
@@ -24,10 +24,10 @@ pub record Walked (loaded index₀ : List ℤ) (acc : Survey) (index : List ℤ)
   pub gathered : gramsFrom index (acc .ts) (loadedLines (drop at loaded)) ≡ gramsFrom index₀ 0 (loadedLines loaded)
   pub asked : all (isWhole InList) (loadedLines (drop at loaded)) ≡ all (isWhole InList) (loadedLines loaded)
 
-pub walk-start : (loaded index : List ℤ) → Walked loaded index fresh index 0
+pub walk-start : (loaded : List ℤ) (index : List ℕ) → Walked loaded index fresh index 0
 walk-start loaded index = record { inside = omega arith; few = omega arith; long = refl; surveyed = refl; gathered = refl; asked = refl }
 
-pub walk-next : {loaded index₀ index : List ℤ} {acc : Survey} {at size : ℕ} → Walked loaded index₀ acc index at → LineAt loaded at size
+pub walk-next : {loaded : List ℤ} {index₀ index : List ℕ} {acc : Survey} {at size : ℕ} → Walked loaded index₀ acc index at → LineAt loaded at size
     → Walked loaded index₀ (withLine acc (take size (drop at loaded))) (withGram index (acc .ts) (take size (drop at loaded))) (at + size)
 unfolding surveyFrom gramsFrom withLine
 walk-next {loaded} {index₀} {index} {acc} {at} {size} w l =
@@ -41,12 +41,12 @@ walk-next {loaded} {index₀} {index} {acc} {at} {size} w l =
     }
 
 -- what the walk has at the end of the list
-pub record Done (loaded index₀ : List ℤ) (acc : Survey) (index : List ℤ) : Type 0 where
+pub record Done (loaded : List ℤ) (index₀ : List ℕ) (acc : Survey) (index : List ℕ) : Type 0 where
   pub whole : all (isWhole InList) (loadedLines loaded) ≡ true
   pub surveyed : acc ≡ surveyFrom fresh (loadedLines loaded)
   pub gathered : index ≡ gramsFrom index₀ 0 (loadedLines loaded)
 
-pub walk-end : {loaded index₀ index : List ℤ} {acc : Survey} {at : ℕ} → Walked loaded index₀ acc index at → length loaded ≤ at → Done loaded index₀ acc index
+pub walk-end : {loaded : List ℤ} {index₀ index : List ℕ} {acc : Survey} {at : ℕ} → Walked loaded index₀ acc index at → length loaded ≤ at → Done loaded index₀ acc index
 unfolding surveyFrom gramsFrom
 walk-end {loaded} {index₀} {index} {acc} {at} w h =
     let none : loadedLines (drop at loaded) ≡ [] = ap loadedLines (drop-of-length-le loaded h) ∙ lines-end in

@@ -10,10 +10,10 @@ use Rattle.ngrams.specs.Parts.{recordsMost}
 use Rattle.ngrams.specs.Grams.{putRecord}
 
 -- one line more, after `ts` T lines: what passes the number that question 5 allows is not noted
-unfoldable pub withGram : List ℤ → ℕ → List ℤ → List ℤ
+unfoldable pub withGram : List ℕ → ℕ → List ℤ → List ℕ
 withGram index ts line = cond (isT line && ltb ts recordsMost) (putRecord index ts line) index
 
 -- the lines from the first on
-unfoldable pub gramsFrom : List ℤ → ℕ → List (List ℤ) → List ℤ
+unfoldable pub gramsFrom : List ℕ → ℕ → List (List ℤ) → List ℕ
 gramsFrom index ts [] = index
 gramsFrom index ts (line ∷ lines) = gramsFrom (withGram index ts line) (ts + one (isT line)) lines

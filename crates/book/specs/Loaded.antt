@@ -18,7 +18,7 @@ unfoldable pub sizeAt : List ℤ → ℕ → ℕ
 sizeAt loaded at = cond (leb (sizeOf InList (drop at loaded)) (length loaded - at)) (sizeOf InList (drop at loaded)) 0
 
 -- question 2 of all lines; where it passes, the survey of all lines, and their records
-abbrev pub SurveyOf : List ℤ → List ℤ → List ℤ → Surveyed → Type 0
+abbrev pub SurveyOf : List ℤ → List ℕ → List ℕ → Surveyed → Type 0
 SurveyOf loaded index₀ index₁ (Whole s) =
     (all (isWhole InList) (loadedLines loaded) ≡ true) × (s ≡ surveyFrom fresh (loadedLines loaded)) × (index₁ ≡ gramsFrom index₀ 0 (loadedLines loaded))
 SurveyOf loaded index₀ index₁ Broken = all (isWhole InList) (loadedLines loaded) ≡ false

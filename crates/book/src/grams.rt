@@ -10,7 +10,7 @@ ghost use Rattle.book.specs.Grams.{withGram};
 
 // A T line, put as the record behind those of the `ts` T lines before it. A line of another kind, or a T line for which the
 // book's limit leaves no place (question 5), changes nothing.
-fn put_gram(index: &mut [i32], ts: usize, line: &[i32])
+fn put_gram(index: &mut [u16], ts: usize, line: &[i32])
     requires { ⌜ recordsEnd ≤ length (now index) ⌝ }
     ensures { λ _. ⌜ now (index .exit) ≡ withGram (now (index .entry)) ts (now (line .entry)) ⌝ }
 {
@@ -24,7 +24,7 @@ fn put_gram(index: &mut [i32], ts: usize, line: &[i32])
 }
 
 // One line more, of a text or of a loaded list: what it adds to the survey, and its record where it is a T line.
-pub fn note_line(acc: Survey, index: &mut [i32], line: &[i32]) -> Survey
+pub fn note_line(acc: Survey, index: &mut [u16], line: &[i32]) -> Survey
     requires { ⌜ Few acc 4611686018427387904 ⌝ }
     requires { ⌜ recordsEnd ≤ length (now index) ⌝ }
     ensures { λ r. ⌜ r ≡ withLine acc (now (line .entry)) ⌝ }

@@ -37,7 +37,7 @@ pub fn is_entry_at(book: &[i32], at: usize) -> bool
 
 // What is known of all lines of a loaded list; `index` gets the records of its T lines. Where a line is not whole, what
 // `index` holds afterwards is not said.
-pub fn survey_loaded(book: &[i32], index: &mut [i32]) -> Surveyed
+pub fn survey_loaded(book: &[i32], index: &mut [u16]) -> Surveyed
     requires { ⌜ recordsEnd ≤ length (now index) ⌝ }
     ensures { λ r. ⌜ SurveyOf (now (book .entry)) (now (index .entry)) (now (index .exit)) r ⌝ }
 {

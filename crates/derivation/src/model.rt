@@ -12,7 +12,7 @@ ghost use Rattle.meaning.specs.Book.{Entry};
 ghost use Rattle.derivation.specs.Model.{Model, wordIn, emptyRow, withWord, withWords, PhraseOf, Phrased};
 
 // One target word more.
-fn add_word(index: &[i32], t: Setup, s: Row, y: u16) -> Row
+fn add_word(index: &[u16], t: Setup, s: Row, y: u16) -> Row
     requires { ⌜ Model (now index) t ⌝ }
     requires { ⌜ Within wordsBound (s .score) ⌝ }
     ensures { λ r. ⌜ r ≡ withWord (now (index .entry)) t s y ⌝ }
@@ -44,7 +44,7 @@ pub fn word_at(book: &[i32], k: usize) -> u16
 }
 
 // The row of the entry's target words after the words word1 and word2.
-pub fn row_of(book: &[i32], index: &[i32], t: Setup, p: Phrase, word1: u16, word2: u16) -> Row
+pub fn row_of(book: &[i32], index: &[u16], t: Setup, p: Phrase, word1: u16, word2: u16) -> Row
     requires { ⌜ Model (now index) t ⌝ }
     requires { ⌜ Phrased (now book) p ⌝ }
     ensures { λ r. ⌜ ((e : Entry) → PhraseOf (now (book .entry)) e p → r ≡ withWords (now (index .entry)) t (emptyRow word1 word2) (e .target)) ⌝ }

@@ -8,7 +8,7 @@ ghost use Rattle.book.specs.Entries.{EntriesAt};
 ghost use Rattle.derivation.specs.Model.{PhraseOf};
 
 // Entry k of the book, counted from 1.
-pub fn phrase_at(book: &[i32], index: &[i32], count: usize, k: usize) -> Phrase
+pub fn phrase_at(book: &[i32], index: &[u16], count: usize, k: usize) -> Phrase
     requires { ⌜ EntriesAt (now book) (now index) count ⌝ }
     requires { ⌜ (1 ≤ k) × (k ≤ count) ⌝ }
     ensures { λ p. ⌜ PhraseOf (now (book .entry)) (entryAt (bookOf (now (book .entry))) k) p ⌝ }

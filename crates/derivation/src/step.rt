@@ -40,7 +40,7 @@ fn gain(t: Setup, p: Phrase, far: usize, row: Row) -> i64
 // The state after the entry's step over the positions first to last, which are free.
 pub fn next_state(
     book: &[i32],
-    index: &[i32],
+    index: &[u16],
     t: Setup,
     p: Phrase,
     first: usize,

@@ -40,7 +40,7 @@ pub struct Turn {
 }
 
 // The place that the entry p leads to in this turn.
-fn next_place(book: &[i32], index: &[i32], t: Setup, p: Phrase, turn: Turn) -> Place
+fn next_place(book: &[i32], index: &[u16], t: Setup, p: Phrase, turn: Turn) -> Place
     requires { ⌜ Model (now index) t ⌝ }
     requires { ⌜ Phrased (now book) p ⌝ }
     requires { ⌜ CanPlace t p (turn .spot) ⌝ }
@@ -79,7 +79,7 @@ fn extend_option(
     count: usize,
     book: &[i32],
     direction: &[u16],
-    index: &[i32],
+    index: &[u16],
     beam: Beam,
     turn: Turn,
 ) -> Grown
@@ -102,7 +102,7 @@ fn extend_at(
     count: usize,
     book: &[i32],
     direction: &[u16],
-    index: &[i32],
+    index: &[u16],
     options: &[u16],
     beam: Beam,
     spot: Spot,
@@ -143,7 +143,7 @@ pub fn extend_all(
     count: usize,
     book: &[i32],
     direction: &[u16],
-    index: &[i32],
+    index: &[u16],
     options: &[u16],
     beam: Beam,
     source: Source,

@@ -27,20 +27,20 @@ refusalOf (CheckRefused refusal) = number refusal
 -- ════ the survey of lines
 
 -- the lines are whole, s is what is known of them, and their records were put into the list that was `index₀`
-pub record WholeAs (form : Form) (lines : List (List ℤ)) (index₀ index₁ : List ℤ) (s : Survey) : Type 0 where
+pub record WholeAs (form : Form) (lines : List (List ℤ)) (index₀ index₁ : List ℕ) (s : Survey) : Type 0 where
   pub whole : all (isWhole form) lines ≡ true
   pub surveyed : s ≡ surveyFrom fresh lines
   pub gathered : index₁ ≡ gramsFrom index₀ 0 lines
 
 -- question 2 of all lines; where it passes, their survey
-abbrev pub SurveyIs : Form → List (List ℤ) → List ℤ → List ℤ → Surveyed → Type 0
+abbrev pub SurveyIs : Form → List (List ℤ) → List ℕ → List ℕ → Surveyed → Type 0
 SurveyIs form lines index₀ index₁ (Whole s) = WholeAs form lines index₀ index₁ s
 SurveyIs form lines index₀ index₁ Broken = all (isWhole form) lines ≡ false
 
 -- ════ what questions 2 to 6 answer
 
 -- none refuses: how many entries and triples the book has, and its triples as indexed records
-pub record Known (refusal : ℕ) (book : Book) (index : List ℤ) (s : Survey) : Type 0 where
+pub record Known (refusal : ℕ) (book : Book) (index : List ℕ) (s : Survey) : Type 0 where
   pub passes : refusal ≡ 0
   pub ps-is : s .ps ≡ length (book .entries)
   pub ts-is : s .ts ≡ length (book .triples)
@@ -49,7 +49,7 @@ pub record Known (refusal : ℕ) (book : Book) (index : List ℤ) (s : Survey) :
   pub indexed : Indexed index (s .ts)
 
 -- of lines or a list that the questions answer with `refusal`, 0 for none, and that state the book `book`
-abbrev pub Answered : ℕ → Book → List ℤ → Loaded → Type 0
+abbrev pub Answered : ℕ → Book → List ℕ → Loaded → Type 0
 Answered refusal book index (Passes s) = Known refusal book index s
 Answered refusal book index (Refused question) = refusal ≡ number question
 

@@ -25,7 +25,7 @@ pub fn reply_of(loaded: Loaded) -> Checked
 pub fn check_book(book: &[i32]) -> Checked
     ensures { λ r. ⌜ checkedReply r ≡ checkBook (now (book .entry)) ⌝ }
 {
-    let mut index = [0i32; ngrams::RECORDS_END];
+    let mut index = [0u16; ngrams::RECORDS_END];
     let loaded = load::load(book, &mut index);
     reply_of(loaded)
 }

@@ -11,7 +11,7 @@ ghost use mathlib.Core.List.{List};
 ghost use lib.IntN.{ℤ};
 ghost use lib.ListN.{length};
 ghost use Rattle.meaning.specs.Book.{Form, linesRefusal, bookOfLines, bookRefusal, bookOf};
-ghost use Prim.Native.Nat.{_≤_};
+ghost use Prim.Native.Nat.{ℕ, _≤_};
 ghost use Rattle.ngrams.specs.Parts.{recordsEnd};
 ghost use Rattle.book.specs.Survey.{surveyRefusal};
 ghost use Rattle.loading.specs.Loaded.{refusalOf, WholeAs, SurveyIs, Answered};
@@ -40,10 +40,10 @@ fn judge(s: Survey) -> Checked
 }
 
 // Question 6, of lines that passed 2 to 5. Where it passes, the records are indexed.
-fn compare(s: Survey, index: &mut [i32]) -> Loaded
+fn compare(s: Survey, index: &mut [u16]) -> Loaded
     requires { ⌜ recordsEnd ≤ length (now index) ⌝ }
     requires { ⌜ surveyRefusal s ≡ 0 ⌝ }
-    ensures { λ r. ⌜ ((form : Form) (lines : List (List ℤ)) (index₀ : List ℤ) → WholeAs form lines index₀ (now (index .entry)) s → Answered (linesRefusal form lines) (bookOfLines lines) (now (index .exit)) r) ⌝ }
+    ensures { λ r. ⌜ ((form : Form) (lines : List (List ℤ)) (index₀ : List ℕ) → WholeAs form lines index₀ (now (index .entry)) s → Answered (linesRefusal form lines) (bookOfLines lines) (now (index .exit)) r) ⌝ }
 {
     if ngrams::all_different(index, s.ts) {
         return Loaded::Book(s);
@@ -52,9 +52,9 @@ fn compare(s: Survey, index: &mut [i32]) -> Loaded
 }
 
 // Questions 3 to 6, of lines that passed 2.
-pub fn settle_whole(s: Survey, index: &mut [i32]) -> Loaded
+pub fn settle_whole(s: Survey, index: &mut [u16]) -> Loaded
     requires { ⌜ recordsEnd ≤ length (now index) ⌝ }
-    ensures { λ r. ⌜ ((form : Form) (lines : List (List ℤ)) (index₀ : List ℤ) → WholeAs form lines index₀ (now (index .entry)) s → Answered (linesRefusal form lines) (bookOfLines lines) (now (index .exit)) r) ⌝ }
+    ensures { λ r. ⌜ ((form : Form) (lines : List (List ℤ)) (index₀ : List ℕ) → WholeAs form lines index₀ (now (index .entry)) s → Answered (linesRefusal form lines) (bookOfLines lines) (now (index .exit)) r) ⌝ }
 {
     match judge(s) {
         Checked::Passed => compare(s, index),
@@ -63,9 +63,9 @@ pub fn settle_whole(s: Survey, index: &mut [i32]) -> Loaded
 }
 
 // Questions 2 to 6, of lines that were surveyed, their records in `index`. Where they pass, the records are indexed.
-pub fn settle(surveyed: Surveyed, index: &mut [i32]) -> Loaded
+pub fn settle(surveyed: Surveyed, index: &mut [u16]) -> Loaded
     requires { ⌜ recordsEnd ≤ length (now index) ⌝ }
-    ensures { λ r. ⌜ ((form : Form) (lines : List (List ℤ)) (index₀ : List ℤ) → SurveyIs form lines index₀ (now (index .entry)) surveyed → Answered (linesRefusal form lines) (bookOfLines lines) (now (index .exit)) r) ⌝ }
+    ensures { λ r. ⌜ ((form : Form) (lines : List (List ℤ)) (index₀ : List ℕ) → SurveyIs form lines index₀ (now (index .entry)) surveyed → Answered (linesRefusal form lines) (bookOfLines lines) (now (index .exit)) r) ⌝ }
 {
     match surveyed {
         Surveyed::Whole(s) => settle_whole(s, index),
@@ -75,7 +75,7 @@ pub fn settle(surveyed: Surveyed, index: &mut [i32]) -> Loaded
 
 // Questions 2 to 6, of a loaded book. Where they pass, `index` holds its triples as indexed records; after a refusal, what it
 // holds is not said.
-pub fn load(book: &[i32], index: &mut [i32]) -> Loaded
+pub fn load(book: &[i32], index: &mut [u16]) -> Loaded
     requires { ⌜ recordsEnd ≤ length (now index) ⌝ }
     ensures { λ r. ⌜ Answered (bookRefusal (now (book .entry))) (bookOf (now (book .entry))) (now (index .exit)) r ⌝ }
 {

@@ -90,14 +90,14 @@ pub record Copied (index : List ℕ) (lines : List (List ℤ)) : Type 0 where
 
 module _ {index : List ℕ} {lines : List (List ℤ)} (c : Copied index lines) where
   copied-key : (k : ℕ) → k < length lines → keyAt index k ≡ lineKey (getD lines k [])
-  unfolding keyAt
+  unfolding keyAt recordOf
   copied-key k l =
       let z : recordAt k + 0 ≡ recordAt k = omega arith in
       let e0 : getD index (recordAt k) 0 ≡ naturalAt (getD lines k []) 1 % wordSpan = rw z at (c .at k 0 l (omega arith)) in
       rw (e0, c .at k 1 l (omega arith), c .at k 2 l (omega arith))
 
   copied-score : (k : ℕ) → k < length lines → TLine (getD lines k []) → scoreAt index k ≡ numberAt (getD lines k []) 4
-  unfolding scoreAt
+  unfolding scoreAt recordOf
   copied-score k l t =
       let z : recordAt k + 3 + 1 ≡ recordAt k + 4 = omega arith in
       ap (λ (n : ℕ). pos n -ℤ pos signShift) (whole-is index (recordAt k + 3) (shifted (numberAt (getD lines k []) 4)) (c .at k 3 l (omega arith)) (rw z (c .at k 4 l (omega arith))))

@@ -59,7 +59,7 @@ abbrev pub triplesIn : List ℕ → ℕ → List Triple
 triplesIn index n = firsts (tripleAt index) n
 
 -- the record of a T line: its words (those that question 4 passes are below 65,536), and its score in two halves
-abbrev pub recordOf : List ℤ → List ℕ
+unfoldable pub recordOf : List ℤ → List ℕ
 recordOf line = naturalAt line 1 % wordSpan ∷ naturalAt line 2 % wordSpan ∷ naturalAt line 3 % wordSpan ∷ halvesOf (shifted (numberAt line 4))
 
 -- it is put as record k

@@ -33,7 +33,7 @@ pub enum Start {
 
 // Questions 2 to 6 of a loaded book. Where they pass, `index` holds what is known of it: its n-grams as indexed records, and
 // the places of its entries; after a refusal, what it holds is not said.
-pub fn open_book(book: &[i32], index: &mut [i32]) -> Opened
+pub fn open_book(book: &[i32], index: &mut [u16]) -> Opened
     requires { ⌜ indexSize ≤ length (now index) ⌝ }
     ensures { λ r. ⌜ OpenedAs (now (book .entry)) (now (index .exit)) r ⌝ }
 {
@@ -66,7 +66,7 @@ fn setup_of(book: &[i32], n: usize, counts: Counts) -> Setup
 }
 
 // Questions 9 and 10 of a direction, for a book that is open. (`index` is for the contract.)
-pub fn begin(book: &[i32], index: &[i32], counts: Counts, direction: &[u16]) -> Start
+pub fn begin(book: &[i32], index: &[u16], counts: Counts, direction: &[u16]) -> Start
     requires { ⌜ Open (now book) (now index) counts ⌝ }
     ensures { λ r. ⌜ BegunAs (now (book .entry)) (now (direction .entry)) (now (index .entry)) r ⌝ }
 {
@@ -77,7 +77,7 @@ pub fn begin(book: &[i32], index: &[i32], counts: Counts, direction: &[u16]) -> 
 }
 
 // One book and one direction: 2 to 6, then 9 and 10.
-pub fn open_and_begin(book: &[i32], direction: &[u16], index: &mut [i32]) -> Start
+pub fn open_and_begin(book: &[i32], direction: &[u16], index: &mut [u16]) -> Start
     requires { ⌜ indexSize ≤ length (now index) ⌝ }
     ensures { λ r. ⌜ StartOf (now (book .entry)) (now (direction .entry)) (now (index .exit)) r ⌝ }
 {

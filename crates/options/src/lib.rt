@@ -79,7 +79,7 @@ pub fn fits_at(book: &[i32], p: Phrase, direction: &[u16], first: usize, last: u
 // The entries that fit at the position `first`, in order, listed behind `from` options; how many options there are then.
 pub fn list_at(
     book: &[i32],
-    index: &[i32],
+    index: &[u16],
     t: Setup,
     direction: &[u16],
     first: usize,
@@ -113,7 +113,7 @@ pub fn list_at(
 }
 
 // Every step that fits, by first position and then by entry, and where the options of each first position begin.
-pub fn list_options(book: &[i32], index: &[i32], t: Setup, direction: &[u16], options: &mut [u16])
+pub fn list_options(book: &[i32], index: &[u16], t: Setup, direction: &[u16], options: &mut [u16])
     requires { ⌜ EntriesAt (now book) (now index) (t .phrases) ⌝ }
     requires { ⌜ length (now direction) ≤ 32 ⌝ }
     requires { ⌜ optionsSize ≤ length (now options) ⌝ }

@@ -17,7 +17,7 @@ pub fn decode_plain(
 ) -> PlainReply
     ensures { λ r. ⌜ PlainDecodes (now (book .entry)) (now (direction .entry)) width room (now (words .entry)) (now (words .exit)) (now (store .entry)) (now (store .exit)) r ⌝ }
 {
-    let mut index = [0i32; INDEX_SIZE];
+    let mut index = [0u16; INDEX_SIZE];
     let mut options = [0u16; options::OPTIONS_SIZE];
     match opening::open_and_begin(book, direction, &mut index) {
         Start::Ready(setup) => {

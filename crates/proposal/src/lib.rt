@@ -26,7 +26,7 @@ pub enum Asked {
 // Question 16: the entry is in the book, and its source words are the direction's words first to last.
 fn is_fitting(
     book: &[i32],
-    index: &[i32],
+    index: &[u16],
     t: Setup,
     direction: &[u16],
     first: usize,
@@ -49,7 +49,7 @@ fn is_fitting(
 // 16, 17 and 18 of one step from the state s on, or the state that it leads to.
 pub fn ask_step(
     book: &[i32],
-    index: &[i32],
+    index: &[u16],
     t: Setup,
     direction: &[u16],
     s: State,
@@ -81,7 +81,7 @@ pub fn ask_step(
 // Questions 16 to 19 of the first `count` steps, in their order, and their score where none refuses.
 pub fn score_steps(
     book: &[i32],
-    index: &[i32],
+    index: &[u16],
     t: Setup,
     direction: &[u16],
     steps: &[u16],

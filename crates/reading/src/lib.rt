@@ -25,7 +25,7 @@ enum TextSurvey {
 
 // Surveys a text, whatever it is; `index` gets the records of its T lines. Where a line is not good, or not whole, what `index`
 // holds afterwards is not said. No whole line has more than 20 numbers.
-fn survey_text(text: &[u8], index: &mut [i32]) -> TextSurvey
+fn survey_text(text: &[u8], index: &mut [u16]) -> TextSurvey
     requires { ⌜ recordsEnd ≤ length (now index) ⌝ }
     ensures { λ r. ⌜ TextSurveyIs (now (text .entry)) (now (index .entry)) (now (index .exit)) r ⌝ }
 {
@@ -80,7 +80,7 @@ fn counted(loaded: Loaded, count: usize) -> Read
 fn check_text(text: &[u8]) -> Read
     ensures { λ r. ⌜ readReply r ≡ reply (textRefusal (now (text .entry))) (length (loadedOf (now (text .entry)))) ⌝ }
 {
-    let mut index = [0i32; ngrams::RECORDS_END];
+    let mut index = [0u16; ngrams::RECORDS_END];
     let surveyed = survey_text(text, &mut index);
     let TextSurvey::Whole { survey, count } = surveyed else {
         return Read::Refused(refusal_of(text));

@@ -13,7 +13,7 @@ pub fn score_plain(book: &[i32], direction: &[u16], plain: Plain) -> Scored
     requires { ⌜ plain .count ≤ 33 ⌝ }
     ensures { λ r. ⌜ scoredReply r ≡ scoreProposal (now (book .entry)) (now (direction .entry)) (stepsOf plain) ⌝ }
 {
-    let mut index = [0i32; INDEX_SIZE];
+    let mut index = [0u16; INDEX_SIZE];
     let steps = plain.numbers;
     let count = plain.count;
     match opening::open_and_begin(book, direction, &mut index) {

@@ -1,18 +1,21 @@
--- The place stands behind the records.
+-- The place stands behind the records, in two halves.
 use Rattle.book.specs.Entries.{entryPlace}
 use borrow.Author.Needs.{needs}
 use Rattle.book.proofs.entries.entry_place.Statement.{statement}
 use Rattle.book.proofs.entries.entry_place.Tie as tie
 
-add-natural-in : tie.Need-add-natural-in
-add-natural-in c = search needs
+mul-whole-at : tie.Need-mul-whole-at
+mul-whole-at c = search needs
 
-natural-in-requires : tie.Need-natural-in-requires
-natural-in-requires c κs = search needs
+add-whole-at : tie.Need-add-whole-at
+add-whole-at c = search needs
+
+whole-at-requires : tie.Need-whole-at-requires
+whole-at-requires c κs = search needs
 
 returns : tie.Need-returns
 unfolding entryPlace
-returns c = c .natural-in .ensures
+returns c = c .whole-at .ensures
 
 pub entry-place-spec : {M : Type 1} → statement M
-entry-place-spec = tie.close (tie.spec add-natural-in natural-in-requires returns)
+entry-place-spec = tie.close (tie.spec mul-whole-at add-whole-at whole-at-requires returns)

@@ -11,10 +11,10 @@ is-kind-requires : tie.Need-is-kind-requires
 is-kind-requires c κs = search needs
 
 returns : tie.Need-returns
-returns c = gram-not (c .before .before .args .index .now) (c .before .before .args .line .now) (c .before .before .args .ts) (sym (c .before .is-kind .ensures) ∙ not-true _ (c .if1 .taken))
+returns c = gram-not (c .before .before .before .args .index .now) (c .before .before .before .args .line .now) (c .before .before .before .args .ts) (sym (c .before .is-kind .ensures) ∙ not-true _ (c .if1 .taken))
 
 returns-2 : tie.Need-returns-2
-returns-2 c = gram-full (c .before .before .before .args .index .now) (c .before .before .before .args .line .now) (c .before .before .before .args .ts) (sym (c .before .before .is-kind .ensures) ∙ not-false _ (c .before .if1 .left)) (omega arith)
+returns-2 c = gram-full (c .before .before .before .before .args .index .now) (c .before .before .before .before .args .line .now) (c .before .before .before .before .args .ts) (sym (c .before .before .is-kind .ensures) ∙ not-false _ (c .before .if1 .left)) (omega arith)
 
 put-record-requires : tie.Need-put-record-requires
 put-record-requires c κs = search needs
@@ -24,8 +24,8 @@ same-length c = search needs
 
 returns-3 : tie.Need-returns-3
 returns-3 c =
-    let s = c .before .before .before .before .before .before .args in
-    c .before .put-record .ensures ∙ gram-put (s .index .now) (s .line .now) (s .ts) (sym (c .before .before .before .before .before .is-kind .ensures) ∙ not-false _ (c .before .before .before .before .if1 .left)) (omega arith)
+    let s = c .before .before .before .before .before .before .before .before .args in
+    c .before .before .put-record .ensures ∙ gram-put (s .index .now) (s .line .now) (s .ts) (sym (c .before .before .before .before .before .before .is-kind .ensures) ∙ not-false _ (c .before .before .before .before .before .if1 .left)) (omega arith)
 
 pub put-gram-spec : {M : Type 1} → statement M
 put-gram-spec =

@@ -20,7 +20,7 @@ fresh-requires : tie.Need-fresh-requires Inv-loop μ-loop
 fresh-requires c κs = tt
 
 loop-holds : tie.Need-loop-holds Inv-loop μ-loop
-loop-holds c = rw (c .fresh .ensures) (walk-start (c .before .args .book .now) (c .before .args .index .now))
+loop-holds c = rw (c .fresh .ensures) (walk-start (c .before .before .args .book .now) (c .before .before .args .index .now))
 
 size-at-requires : tie.Need-size-at-requires Inv-loop μ-loop
 size-at-requires c κs = omega arith
@@ -29,11 +29,11 @@ same-length : tie.Need-same-length Inv-loop μ-loop
 same-length c = c .before .before .before .loop .inv .long
 
 returns : tie.Need-returns Inv-loop μ-loop
-returns c = sym (c .before .before .before .loop .inv .asked) ∙ line-broken (c .before .before .before .before .before .args .book .now) (c .before .before .before .loop .at) (c .before .before .loop-test .taken) (sym (c .if1 .taken) ∙ c .before .size-at .ensures)
+returns c = sym (c .before .before .before .loop .inv .asked) ∙ line-broken (c .before .before .before .before .before .before .args .book .now) (c .before .before .before .loop .at) (c .before .before .loop-test .taken) (sym (c .if1 .taken) ∙ c .before .size-at .ensures)
 
 -- the line that stands at `at`
-here : (c : tie.Else1 Inv-loop μ-loop) → LineAt (c .before .before .before .before .before .args .book .now) (c .before .before .before .loop .at) (c .before .size-at .result)
-here c = line-at (c .before .before .before .before .before .args .book .now) (c .before .before .before .loop .at) (c .before .size-at .result) (c .before .before .loop-test .taken) (c .before .size-at .ensures) (c .if1 .left)
+here : (c : tie.Else1 Inv-loop μ-loop) → LineAt (c .before .before .before .before .before .before .args .book .now) (c .before .before .before .loop .at) (c .before .size-at .result)
+here c = line-at (c .before .before .before .before .before .before .args .book .now) (c .before .before .before .loop .at) (c .before .size-at .result) (c .before .before .loop-test .taken) (c .before .size-at .ensures) (c .if1 .left)
 
 add-note-line : tie.Need-add-note-line Inv-loop μ-loop
 add-note-line c = omega (arith, here (c .before) .inside)
@@ -54,16 +54,16 @@ note-line-requires : tie.Need-note-line-requires Inv-loop μ-loop
 note-line-requires c κs = (few-more (c .before .before .before .before .before .loop .inv .few) (omega arith), omega arith)
 
 add-at : tie.Need-add-at Inv-loop μ-loop
-add-at c = omega (arith, here (c .before .before .before .before) .inside)
+add-at c = omega (arith, here (c .before .before .before .before .before) .inside)
 
 loop-less : tie.Need-loop-less Inv-loop μ-loop
-loop-less c = omega (arith, here (c .before .before .before .before) .inside, here (c .before .before .before .before) .some)
+loop-less c = omega (arith, here (c .before .before .before .before .before) .inside, here (c .before .before .before .before .before) .some)
 
 loop-again : tie.Need-loop-again Inv-loop μ-loop
 loop-again c =
-    let said = c .before .note-line .ensures in
-    let line = part-size (c .before .before .before .before .before .before .before .before .before .args .book .now) (c .before .before .before .before .before .before .before .loop .at) (c .before .before .before .before .before .size-at .result) in
-    rw (said .0, said .1, line) (walk-next (c .before .before .before .before .before .before .before .loop .inv) (here (c .before .before .before .before)))
+    let said = c .before .before .note-line .ensures in
+    let line = part-size (c .before .before .before .before .before .before .before .before .before .before .before .args .book .now) (c .before .before .before .before .before .before .before .before .loop .at) (c .before .before .before .before .before .before .size-at .result) in
+    rw (said .0, said .1, line) (walk-next (c .before .before .before .before .before .before .before .before .loop .inv) (here (c .before .before .before .before .before)))
 
 same-length-2 : tie.Need-same-length-2 Inv-loop μ-loop
 same-length-2 c = c .before .loop .inv .long
