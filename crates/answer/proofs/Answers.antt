@@ -48,7 +48,7 @@ below-end options i n o a b h = by (ℕ-discrete i n)
     by (yes e) = let c : o < startAt options i = rw e b in absurd (omega arith)
     by (no q) = omega arith
 
-module _ {loaded : List ℤ} {direction : List ℕ} {index : List ℤ} {options : List ℕ} {t : Setup} (C : Choices loaded direction index options t)
+module _ {loaded : List ℤ} {direction : List ℕ} {index : List ℕ} {options : List ℕ} {t : Setup} (C : Choices loaded direction index options t)
     {o : ℕ} (ho : o < length (fittingSteps (bookOf loaded) direction)) where
   pub option-to : o < startAt options (t .n)
   option-to = let e = C .options-of .ends in let n = C .n-is in rw n (omega arith)
@@ -183,7 +183,7 @@ module _ {book : Book} {direction : List ℕ} {st : List ℤ} {k : ℕ} {q : Hyp
         ∙ way-is (optionAt book direction) out (getD (E .list) k nobody .steps) (omega arith) (λ i g. W .step-is i (omega arith)) ∙ steps-same
 
 -- each of the steps has an entry of the book
-module _ {loaded : List ℤ} {direction : List ℕ} {index : List ℤ} {options : List ℕ} {t : Setup} (C : Choices loaded direction index options t) where
+module _ {loaded : List ℤ} {direction : List ℕ} {index : List ℕ} {options : List ℕ} {t : Setup} (C : Choices loaded direction index options t) where
   pub step-entry : (plain : Plain) (out : List ℕ) (d : ℕ) → (plain .count ≡ d) × (stepsOf plain ≡ map (optionAt (bookOf loaded) direction) (take d out))
       → ((i : ℕ) → i < d → getD out i 0 < length (fittingSteps (bookOf loaded) direction))
       → (i : ℕ) → i < plain .count → (1 ≤ stepIn plain i .entry) × (stepIn plain i .entry ≤ t .phrases)

@@ -164,7 +164,7 @@ module _ (loaded : List ℤ) (direction : List ℕ) (width : ℤ) (room : ℕ) (
 
 -- ════ the lists of the search are ready
 
-pub made-searchable : {loaded : List ℤ} {direction : List ℕ} {index : List ℤ} {options : List ℕ} {t : Setup} → Prepared loaded direction index t
+pub made-searchable : {loaded : List ℤ} {direction : List ℕ} {index : List ℕ} {options : List ℕ} {t : Setup} → Prepared loaded direction index t
     → OptionsOf (bookOf loaded) direction options → length options < 2 ^ 63
     → Searchable loaded direction index options t
 made-searchable {direction} R of small =

@@ -16,7 +16,7 @@ use Rattle.derivation.specs.declared.Setup.{Setup}
 use Rattle.derivation.specs.declared.Row.{Row}
 use Rattle.derivation.specs.declared.Phrase.{Phrase}
 
-module _ (book : Book) (index : List ℤ) (t : Setup) (scores : (v w y : ℕ) → modelScore index t v w y ≡ tripleScore book v w y) where
+module _ (book : Book) (index : List ℕ) (t : Setup) (scores : (v w y : ℕ) → modelScore index t v w y ≡ tripleScore book v w y) where
   -- a row has the score of its triples, and its last two words
   row-score : (s : Row) (ys : List ℕ) → withWords index t s ys .score ≡ s .score +ℤ wordsScore book (s .word1) (s .word2) ys
   unfolding withWords withWord wordsScore

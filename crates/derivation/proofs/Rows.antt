@@ -25,7 +25,7 @@ unfolding wordIn
 word-is {loaded} {from} {many} {words} w j h =
     rw (w .word-at j h) (let k : getD words j 0 ≤ wordMost = w .word-to j h in mod-eq-of-lt (omega arith))
 
-module _ (index : List ℤ) (t : Setup) where
+module _ (index : List ℕ) (t : Setup) where
   -- one word more of the row
   pub row-next : (s : Row) (words : List ℕ) (j : ℕ) → j < length words → withWords index t s (drop j words) ≡ withWords index t (withWord index t s (getD words j 0)) (drop (j + 1) words)
   unfolding withWords
@@ -40,7 +40,7 @@ module _ (index : List ℤ) (t : Setup) where
   row-within each s y j h = within-mono (omega arith) (within-+ h (each (s .word1) (s .word2) y))
 
 -- a state whose fields are what the calls gave is the next one
-pub next-is : (index : List ℤ) (t : Setup) (p : Phrase) (e : Entry) (first last : ℕ) (s : State) (row : Row) (far cov : ℕ) (more score : ℤ)
+pub next-is : (index : List ℕ) (t : Setup) (p : Phrase) (e : Entry) (first last : ℕ) (s : State) (row : Row) (far cov : ℕ) (more score : ℤ)
     → row ≡ withWords index t (emptyRow (s .word1) (s .word2)) (e .target) → far ≡ jumpFrom (s .r) first → cov ≡ s .covered + maskOf first last
     → more ≡ gainBy t p far row → score ≡ s .score +ℤ more
     → _≡_ {A = State} (record { word1 = row .word1; word2 = row .word2; covered = cov; r = last; score = score }) (nextState index t p e first last s)

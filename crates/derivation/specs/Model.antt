@@ -18,11 +18,11 @@ use Rattle.derivation.specs.declared.Phrase.{Phrase}
 -- ════ the language model
 
 -- the score of the triple v, w, y by the list
-unfoldable pub modelScore : List ℤ → Setup → ℕ → ℕ → ℕ → ℤ
+unfoldable pub modelScore : List ℕ → Setup → ℕ → ℕ → ℕ → ℤ
 modelScore index t v w y = listedScore v w y (t .unseen) (triplesIn index (t .triples))
 
 -- the list has an index of triples, no two alike, with scores in their range
-pub record Model (index : List ℤ) (t : Setup) : Type 0 where
+pub record Model (index : List ℕ) (t : Setup) : Type 0 where
   pub indexed : Indexed index (t .triples)
   pub different : noneTwice sameKey (keysIn index (t .triples)) ≡ true
   pub scores-within : (v w y : ℕ) → Within scoreMost (modelScore index t v w y)
@@ -32,10 +32,10 @@ abbrev pub emptyRow : ℕ → ℕ → Row
 emptyRow v w = record { score = pos 0; word1 = v; word2 = w }
 
 -- one target word more, and a row of them
-unfoldable pub withWord : List ℤ → Setup → Row → ℕ → Row
+unfoldable pub withWord : List ℕ → Setup → Row → ℕ → Row
 withWord index t s y = record { score = s .score +ℤ modelScore index t (s .word1) (s .word2) y; word1 = s .word2; word2 = y }
 
-unfoldable pub withWords : List ℤ → Setup → Row → List ℕ → Row
+unfoldable pub withWords : List ℕ → Setup → Row → List ℕ → Row
 withWords index t s [] = s
 withWords index t s (y ∷ ys) = withWords index t (withWord index t s y) ys
 

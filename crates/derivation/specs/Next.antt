@@ -21,7 +21,7 @@ unfoldable pub gainBy : Setup → Phrase → ℕ → Row → ℤ
 gainBy t p far row = p .g +ℤ t .eta *ℤ pos far +ℤ row .score
 
 -- the entry's words are added, the positions covered, and the gain added
-unfoldable pub nextState : List ℤ → Setup → Phrase → Entry → ℕ → ℕ → State → State
+unfoldable pub nextState : List ℕ → Setup → Phrase → Entry → ℕ → ℕ → State → State
 nextState index t p e first last s =
     let row = withWords index t (emptyRow (s .word1) (s .word2)) (e .target) in
     record {

@@ -10,7 +10,7 @@ use Rattle.book.specs.Entries.{EntriesAt}
 use Rattle.derivation.specs.Model.{Model, modelScore}
 use Rattle.derivation.specs.declared.Setup.{Setup}
 
-pub record Prepared (loaded : List ℤ) (direction : List ℕ) (index : List ℤ) (t : Setup) : Type 0 where
+pub record Prepared (loaded : List ℤ) (direction : List ℕ) (index : List ℕ) (t : Setup) : Type 0 where
   pub passed : bookRefusal loaded ≡ 0
   pub directed : directionRefusal direction ≡ 0
   pub model : Model index t

@@ -35,7 +35,7 @@ use Rattle.store.specs.declared.Place.{Place}
 use Rattle.extending.specs.Extend.{nextPlace, CanPlace}
 use Rattle.extending.specs.declared.Turn.{Turn}
 
-module _ {loaded : List ℤ} {direction : List ℕ} {index : List ℤ} {t : Setup} (R : Prepared loaded direction index t)
+module _ {loaded : List ℤ} {direction : List ℕ} {index : List ℕ} {t : Setup} (R : Prepared loaded direction index t)
     (turn : Turn) {p : Phrase} (of : PhraseOf loaded (entryAt (bookOf loaded) (turn .entry)) p) (fine : Fine (wordCount direction) (turn .spot .source .place .state)) where
   abbrev x : Place
   x = turn .spot .source .place

@@ -42,7 +42,7 @@ use Rattle.extending.specs.declared.Turn.{Turn}
 use Rattle.options.specs.Options.{optionsFrom, startAt, optionIn}
 use Rattle.extending.proofs.Placed.{can-place, next-place}
 
-module _ {loaded : List ℤ} {direction : List ℕ} {index : List ℤ} {beam : Beam} {turn : Turn}
+module _ {loaded : List ℤ} {direction : List ℕ} {index : List ℕ} {beam : Beam} {turn : Turn}
     (T : TurnOf loaded direction index beam turn) {p : Phrase} (of : PhraseOf loaded (entryAt (bookOf loaded) (turn .entry)) p) where
   abbrev book : Book
   book = bookOf loaded
@@ -148,7 +148,7 @@ module _ (bk : Book) (direction : List ℕ) (width : ℤ) (i j : ℕ) (x : Place
       (skipped bk direction width A (omega arith) F (never (from + many) (omega arith) (omega arith)))
 
 -- the options of a position, from where they begin to where the next position's begin
-module _ {loaded : List ℤ} {direction : List ℕ} {index : List ℤ} {options : List ℕ} {beam : Beam} {spot : Spot}
+module _ {loaded : List ℤ} {direction : List ℕ} {index : List ℕ} {options : List ℕ} {beam : Beam} {spot : Spot}
     (R : Searchable loaded direction index options (beam .setup)) (S : SpotOf loaded direction beam spot) where
   abbrev book′ : Book
   book′ = bookOf loaded
@@ -259,7 +259,7 @@ module _ {loaded : List ℤ} {direction : List ℕ} {index : List ℤ} {options 
           rw (q, and-false) refl
 
 -- a position, with the run that was read for it
-module _ {loaded : List ℤ} {direction : List ℕ} {index : List ℤ} {options : List ℕ} {beam : Beam} {source : Source}
+module _ {loaded : List ℤ} {direction : List ℕ} {index : List ℕ} {options : List ℕ} {beam : Beam} {source : Source}
     (R : Searchable loaded direction index options (beam .setup)) where
   pub spot-at : Chosen (bookOf loaded) direction (beam .width) (source .place .size) (source .at) (source .place) → source .at < 2 ^ 63
       → (runs : List ℕ) → RunsFrom runs (beam .setup .n) (source .place .state .covered) 0 → (i : ℕ) → i < beam .setup .n
@@ -276,7 +276,7 @@ module _ {loaded : List ℤ} {direction : List ℕ} {index : List ℤ} {options 
       }
 
 -- no option is done before the first position (`begins`), and all of them after the last
-pub all-done : {loaded : List ℤ} {direction : List ℕ} {index : List ℤ} {options : List ℕ} {t : Setup}
+pub all-done : {loaded : List ℤ} {direction : List ℕ} {index : List ℕ} {options : List ℕ} {t : Setup}
     → Searchable loaded direction index options t → (i : ℕ) → i ≤ t .n → t .n ≤ i → length (fittingSteps (bookOf loaded) direction) ≤ startAt options i
 all-done {direction} R i a b =
     let n = R .prepared .n-is in

@@ -27,7 +27,7 @@ use Rattle.states.specs.declared.Grown.{Grown}
 use Rattle.states.specs.declared.Grown.the-variants.{On, Overflow}
 
 -- the place after a turn by the entry e, over its positions
-unfoldable pub nextPlace : List ℤ → Setup → Phrase → Entry → Turn → Place
+unfoldable pub nextPlace : List ℕ → Setup → Phrase → Entry → Turn → Place
 nextPlace index t p e turn =
     let spot = turn .spot in
     let x = spot .source .place in
@@ -55,7 +55,7 @@ pub record Grows (old new : List ℤ) (count : ℕ) (y : Place) (r : Grown) : Ty
 -- ════ the lists of a decode
 
 -- the entries' places and the steps that fit are those of this book and this direction
-pub record Choices (loaded : List ℤ) (direction : List ℕ) (index : List ℤ) (options : List ℕ) (t : Setup) : Type 0 where
+pub record Choices (loaded : List ℤ) (direction : List ℕ) (index : List ℕ) (options : List ℕ) (t : Setup) : Type 0 where
   pub n-is : t .n ≡ wordCount direction
   pub few : wordCount direction ≤ 32
   pub entries-at : EntriesAt loaded index (t .phrases)
@@ -63,7 +63,7 @@ pub record Choices (loaded : List ℤ) (direction : List ℕ) (index : List ℤ)
   pub options-small : length options < 2 ^ 63
 
 -- and so is the language model: all that a search reads is there
-pub record Searchable (loaded : List ℤ) (direction : List ℕ) (index : List ℤ) (options : List ℕ) (t : Setup) : Type 0 where
+pub record Searchable (loaded : List ℤ) (direction : List ℕ) (index : List ℕ) (options : List ℕ) (t : Setup) : Type 0 where
   pub prepared : Prepared loaded direction index t
   pub choices : Choices loaded direction index options t
 
@@ -76,7 +76,7 @@ pub record SpotOf (loaded : List ℤ) (direction : List ℕ) (beam : Beam) (spot
   pub run-is : spot .run ≡ freeRun (drop (spot .first - 1) (bitsOf (wordCount direction) (spot .source .place .state .covered)))
 
 -- the turn's option is its entry at its spot, which is in reach
-pub record TurnOf (loaded : List ℤ) (direction : List ℕ) (index : List ℤ) (beam : Beam) (turn : Turn) : Type 0 where
+pub record TurnOf (loaded : List ℤ) (direction : List ℕ) (index : List ℕ) (beam : Beam) (turn : Turn) : Type 0 where
   pub prepared : Prepared loaded direction index (beam .setup)
   pub spot-of : SpotOf loaded direction beam (turn .spot)
   pub near : jumpFrom (turn .spot .source .place .state .r) (turn .spot .first) ≤ beam .setup .limit

@@ -60,7 +60,7 @@ later false b c m j e two three four = absurd (two (sym e))
 
 -- ════ question 6
 
-module _ {form : Form} {lines : List (List ℤ)} {index₀ index : List ℤ} {s : Survey} (w : WholeAs form lines index₀ index s) (room : recordsEnd ≤ length index) (four : surveyRefusal s ≡ 0) where
+module _ {form : Form} {lines : List (List ℤ)} {index₀ index : List ℕ} {s : Survey} (w : WholeAs form lines index₀ index s) (room : recordsEnd ≤ length index) (four : surveyRefusal s ≡ 0) where
   refusal-6 : linesRefusal form lines ≡ 6 unless isNoTripleTwice lines
   refusal-6 = survey-refusal form lines (w .whole) ∙ ap (λ (k : ℕ). k orelse 6 unless isNoTripleTwice lines) (ap surveyRefusal (sym (w .surveyed)) ∙ four)
 
@@ -80,14 +80,13 @@ module _ {form : Form} {lines : List (List ℤ)} {index₀ index : List ℤ} {s 
   copied = record {
     at = λ k f h l.
         let n : length (keep isT lines) ≡ count isT lines = keep-length isT lines in
-        let c : f + 1 ≡ 1 + f = omega arith in
         let z = counted in
         let few = judged-few s four in
-        rw (w .gathered, c) (grams-hold index₀ lines (omega arith) (omega (arith, ap length (w .gathered), grams-long index₀ 0 lines)) k f (omega arith) l);
+        rw (w .gathered) (grams-hold index₀ lines (omega arith) (omega (arith, ap length (w .gathered), grams-long index₀ 0 lines)) k f (omega arith) l);
   }
 
   held : triplesIn index (s .ts) ≡ map tripleOf (keep isT lines)
-  held = ap (triplesIn index) counted ∙ triples-are index lines copied
+  held = ap (triplesIn index) counted ∙ triples-are index lines copied form (w .whole) ranged
 
   answer-6 : noneTwice sameKey (keysIn index (s .ts)) ≡ isNoTripleTwice lines
   answer-6 = ap (λ (n : ℕ). noneTwice sameKey (keysIn index n)) counted ∙ answers-6 form index lines copied (w .whole) ranged
@@ -96,7 +95,7 @@ module _ {form : Form} {lines : List (List ℤ)} {index₀ index : List ℤ} {s 
   repeated-so e = refusal-6 ∙ ap (λ (b : Bool). 6 unless b) (sym (e ∙ answer-6))
 
   -- `all_different` left the records as they were
-  pub different-so : {after : List ℤ} → KeptFrom recordsFrom index after → true ≡ noneTwice sameKey (keysIn index (s .ts)) → Indexed after (s .ts) → Known (linesRefusal form lines) (bookOfLines lines) after s
+  pub different-so : {after : List ℕ} → KeptFrom recordsFrom index after → true ≡ noneTwice sameKey (keysIn index (s .ts)) → Indexed after (s .ts) → Known (linesRefusal form lines) (bookOfLines lines) after s
   unfolding bookOfLines
   different-so same e x = record {
     passes = refusal-6 ∙ ap (λ (b : Bool). 6 unless b) (sym (e ∙ answer-6));
@@ -108,7 +107,7 @@ module _ {form : Form} {lines : List (List ℤ)} {index₀ index : List ℤ} {s 
   }
 
 -- a refusal by questions 3 to 5 is the lines' refusal
-pub judged-so : {form : Form} {lines : List (List ℤ)} {index₀ index : List ℤ} {s : Survey} → WholeAs form lines index₀ index s → (refusal : Refusal) → number refusal ≡ surveyRefusal s
+pub judged-so : {form : Form} {lines : List (List ℤ)} {index₀ index : List ℕ} {s : Survey} → WholeAs form lines index₀ index s → (refusal : Refusal) → number refusal ≡ surveyRefusal s
     → linesRefusal form lines ≡ number refusal
 judged-so {form} {lines} w refusal e =
     survey-refusal form lines (w .whole)
@@ -118,6 +117,6 @@ judged-so {form} {lines} w refusal e =
 -- ════ a loaded list
 
 -- its survey is that of its lines
-pub survey-loaded : (loaded index₀ index₁ : List ℤ) (r : Surveyed) → SurveyOf loaded index₀ index₁ r → SurveyIs InList (loadedLines loaded) index₀ index₁ r
+pub survey-loaded : (loaded : List ℤ) (index₀ index₁ : List ℕ) (r : Surveyed) → SurveyOf loaded index₀ index₁ r → SurveyIs InList (loadedLines loaded) index₀ index₁ r
 survey-loaded loaded index₀ index₁ (Whole s) e = record { whole = e .0; surveyed = e .1; gathered = e .2 }
 survey-loaded loaded index₀ index₁ Broken e = e

@@ -21,7 +21,7 @@ use Rattle.meaning.proofs.Numbered.{number-from, refused-reply}
 
 -- ════ the reply
 
-pub answer-reply : (k : ℕ) (book : Book) (index : List ℤ) (r : Loaded) → Answered k book index r → checkedReply (replied r) ≡ reply k tt
+pub answer-reply : (k : ℕ) (book : Book) (index : List ℕ) (r : Loaded) → Answered k book index r → checkedReply (replied r) ≡ reply k tt
 answer-reply k book index (Passes s) a = sym (reply-done k tt (a .passes))
 answer-reply k book index (Refused refusal) a = refused-reply refusal k tt a
 

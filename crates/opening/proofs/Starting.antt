@@ -91,7 +91,7 @@ module _ (loaded : List ℤ) (passed : bookRefusal loaded ≡ 0) where
 
 -- ════ the model
 
-module _ {loaded index : List ℤ} {counts : Counts} {t : Setup} (direction : List ℕ) (o : Open loaded index counts) (d : directionRefusal direction ≡ 0)
+module _ {loaded : List ℤ} {index : List ℕ} {counts : Counts} {t : Setup} (direction : List ℕ) (o : Open loaded index counts) (d : directionRefusal direction ≡ 0)
     (k : SetupOf (bookOf loaded) (length direction) counts t) where
   -- the triples in the list are the book's
   listed : triplesIn index (t .triples) ≡ bookOf loaded .triples
@@ -150,6 +150,6 @@ pub direction-refuses : (k m : ℕ) (refusal : Refusal) → k ≡ 0 → m ≡ nu
 direction-refuses k m refusal p e = ap (λ (j : ℕ). j orelse m) p ∙ e
 
 -- after a book that passed, what 9 and 10 answer is the answer
-pub begun-starts : (loaded : List ℤ) (direction : List ℕ) (index : List ℤ) (r : Start) → bookRefusal loaded ≡ 0 → BegunAs loaded direction index r → StartOf loaded direction index r
+pub begun-starts : (loaded : List ℤ) (direction : List ℕ) (index : List ℕ) (r : Start) → bookRefusal loaded ≡ 0 → BegunAs loaded direction index r → StartOf loaded direction index r
 begun-starts loaded direction index (Ready t) p b = b
 begun-starts loaded direction index (Refused refusal) p b = direction-refuses (bookRefusal loaded) (directionRefusal direction) refusal p b

@@ -21,7 +21,7 @@ use Rattle.opening.specs.declared.Start.the-variants.{Ready, Refused}
 -- ════ questions 2 to 6
 
 -- they pass: the list has the book's triples as indexed records, and the places of its entries
-pub record Open (loaded index : List ℤ) (counts : Counts) : Type 0 where
+pub record Open (loaded : List ℤ) (index : List ℕ) (counts : Counts) : Type 0 where
   pub passed : bookRefusal loaded ≡ 0
   pub triples-are : triplesIn index (counts .triples) ≡ bookOf loaded .triples
   pub different : noneTwice sameKey (keysIn index (counts .triples)) ≡ true
@@ -29,7 +29,7 @@ pub record Open (loaded index : List ℤ) (counts : Counts) : Type 0 where
   pub entries-at : EntriesAt loaded index (counts .phrases)
 
 -- "Any call that takes a loaded book ..: 2 to 6."
-abbrev pub OpenedAs : List ℤ → List ℤ → Opened → Type 0
+abbrev pub OpenedAs : List ℤ → List ℕ → Opened → Type 0
 OpenedAs loaded index (Opens counts) = Open loaded index counts
 OpenedAs loaded index (BookRefused refusal) = bookRefusal loaded ≡ number refusal
 
@@ -45,12 +45,12 @@ pub record SetupOf (book : Book) (n : ℕ) (counts : Counts) (t : Setup) : Type 
   pub triples-are : t .triples ≡ counts .triples
 
 -- "A direction as numbers: 9, 10." Where they pass, the list and the numbers are those of the book and the direction
-abbrev pub BegunAs : List ℤ → List ℕ → List ℤ → Start → Type 0
+abbrev pub BegunAs : List ℤ → List ℕ → List ℕ → Start → Type 0
 BegunAs loaded direction index (Ready t) = Prepared loaded direction index t
 BegunAs loaded direction index (Refused refusal) = directionRefusal direction ≡ number refusal
 
 -- ════ both
 
-abbrev pub StartOf : List ℤ → List ℕ → List ℤ → Start → Type 0
+abbrev pub StartOf : List ℤ → List ℕ → List ℕ → Start → Type 0
 StartOf loaded direction index (Ready t) = Prepared loaded direction index t
 StartOf loaded direction index (Refused refusal) = (bookRefusal loaded orelse directionRefusal direction) ≡ number refusal

@@ -5,6 +5,7 @@ use mathlib.Core.List.{List, _++_, map}
 use lib.ListN.{length, getD, take}
 use Rattle.laws.specs.Lists.{keep, concat, oneTo}
 use Rattle.meaning.specs.Book.{Book}
+use Rattle.halves.specs.Halves.{wholeAt}
 use Rattle.book.specs.Entries.{entriesMost}
 use Rattle.meaning.specs.Direction.{wordCount}
 use Rattle.meaning.specs.Derivation.{noStep, fits}
@@ -19,9 +20,9 @@ optionsFrom = 66
 abbrev pub optionsSize : ℕ
 optionsSize = optionsFrom + 32 * entriesMost
 
--- where the options of position i + 1 begin, counted in options: the rest below 65,536, and how many times 65,536
+-- where the options of position i + 1 begin, counted in options: a number in two halves
 unfoldable pub startAt : List ℕ → ℕ → ℕ
-startAt options i = getD options (2 * i) 0 + 65_536 * getD options (2 * i + 1) 0
+startAt options i = wholeAt options (2 * i)
 
 -- the entry number of option o
 unfoldable pub optionIn : List ℕ → ℕ → ℕ

@@ -28,7 +28,7 @@ pub fn start_at(options: &[u16], i: usize) -> usize
     requires { ⌜ (i ≤ 32) × (optionsFrom ≤ length (now options)) ⌝ }
     ensures { λ r. ⌜ r ≡ startAt (now (options .entry)) i ⌝ }
 {
-    options[2 * i] as usize + 65536 * (options[2 * i + 1] as usize)
+    halves::whole_at(options, 2 * i)
 }
 
 // The entry number of the option o.
@@ -39,14 +39,13 @@ pub fn option_at(options: &[u16], o: usize) -> u16
     options[OPTIONS_FROM + o]
 }
 
-// Notes where the options of the position i + 1 begin: the rest below 65,536, and how many times 65,536.
+// Notes where the options of the position i + 1 begin.
 fn put_start(options: &mut [u16], i: usize, start: usize)
     requires { ⌜ (i ≤ 32) × (optionsFrom ≤ length (now options)) ⌝ }
     requires { ⌜ start < 2 ^ 32 ⌝ }
     ensures { λ _. ⌜ StartPut (now (options .entry)) (now (options .exit)) i start ⌝ }
 {
-    options[2 * i] = (start % 65536) as u16;
-    options[2 * i + 1] = (start / 65536) as u16;
+    halves::put_whole(options, 2 * i, start);
 }
 
 // The entry's source words are the direction's words first to last, no more and no fewer.

@@ -87,7 +87,7 @@ direction-few direction e =
     let b = h .1 in
     (omega arith, omega arith)
 
-module _ (loaded : List ℤ) (direction : List ℕ) (index : List ℤ) (t : Setup) (P : Prepared loaded direction index t)
+module _ (loaded : List ℤ) (direction : List ℕ) (index : List ℕ) (t : Setup) (P : Prepared loaded direction index t)
     (s : State) (step : Step) (R : Bounded direction s) (fit : fits (bookOf loaded) direction step ≡ true) where
   abbrev book : Book
   book = bookOf loaded

@@ -30,7 +30,7 @@ abbrev pub numbersAt : List ℕ → ℕ → List ℤ
 numbersAt text at = emitLine true Line (drop at text)
 
 -- of a book's text, the lines before `at` were noted in `acc`, `index` and `count`
-pub record Noted (text : List ℕ) (index₀ : List ℤ) (acc : Survey) (index : List ℤ) (count at : ℕ) : Type 0 where
+pub record Noted (text : List ℕ) (index₀ : List ℕ) (acc : Survey) (index : List ℕ) (count at : ℕ) : Type 0 where
   pub line : At text at
   pub surveyed : surveyFrom acc (textLines (drop at text)) ≡ surveyFrom fresh (textLines text)
   pub gathered : gramsFrom index (acc .ts) (textLines (drop at text)) ≡ gramsFrom index₀ 0 (textLines text)
@@ -38,7 +38,7 @@ pub record Noted (text : List ℕ) (index₀ : List ℤ) (acc : Survey) (index :
   pub total : count + length (loadedOf (drop at text)) ≡ length (loadedOf text)
 
 -- the invariant: the lines before `at` are good; they were noted, and `row` has a place for each number of a whole line
-pub record Walked (text : List ℕ) (index₀ : List ℤ) (acc : Survey) (index row : List ℤ) (count at : ℕ) : Type 0 where
+pub record Walked (text : List ℕ) (index₀ : List ℕ) (acc : Survey) (index : List ℕ) (row : List ℤ) (count at : ℕ) : Type 0 where
   pub ends : atLine (run true Line (drop at text)) ≡ atLine (run true Line text)
   pub noted : isBookText text ≡ true → Noted text index₀ acc index count at
   pub within : at ≤ length text
@@ -47,7 +47,7 @@ pub record Walked (text : List ℕ) (index₀ : List ℤ) (acc : Survey) (index 
   pub long : length index ≡ length index₀
   pub places : length row ≡ 20
 
-pub walk-start : (text : List ℕ) (index row : List ℤ) → length row ≡ 20 → Walked text index fresh index row 0 0
+pub walk-start : (text : List ℕ) (index : List ℕ) (row : List ℤ) → length row ≡ 20 → Walked text index fresh index row 0 0
 walk-start text index row l = record {
   ends = refl;
   noted = λ t. record { line = at-start text t; surveyed = refl; gathered = refl; asked = refl; total = zero-add (length (loadedOf text)) };
@@ -62,7 +62,7 @@ walk-start text index row l = record {
 pub row-later : {text : List ℕ} {at : ℕ} {row row′ : List ℤ} {r : TextLine} → RowRead text at row row′ r → r .good ≡ true → isWhole InText (numbersAt text at) ≡ true → at < r .end
 row-later {text} {at} f g e = omega (arith, f .long g, emit-few true Line (drop at text), four-numbers InText (numbersAt text at) e)
 
-module _ {text : List ℕ} {index₀ index row row′ : List ℤ} {acc : Survey} {count at : ℕ} (w : Walked text index₀ acc index row count at) (r : TextLine) (f : RowRead text at row row′ r) where
+module _ {text : List ℕ} {index₀ index : List ℕ} {row row′ : List ℤ} {acc : Survey} {count at : ℕ} (w : Walked text index₀ acc index row count at) (r : TextLine) (f : RowRead text at row row′ r) where
   -- a line that is not good: the text is no book's
   pub walk-bad : r .good ≡ false → isBookText text ≡ true → all (isWhole InText) (textLines text) ≡ false
   walk-bad g t =
@@ -107,7 +107,7 @@ module _ {text : List ℕ} {index₀ index row row′ : List ℤ} {acc : Survey}
           }
 
 -- at the end of a text that is not empty
-pub walk-end : {text : List ℕ} {index₀ index row : List ℤ} {acc : Survey} {count at : ℕ} → Walked text index₀ acc index row count at → length text ≤ at → (length text ≡ 0 → ⊥)
+pub walk-end : {text : List ℕ} {index₀ index : List ℕ} {row : List ℤ} {acc : Survey} {count at : ℕ} → Walked text index₀ acc index row count at → length text ≤ at → (length text ≡ 0 → ⊥)
     → WholeText text index₀ index acc count
 unfolding surveyFrom gramsFrom
 walk-end {text} {index₀} {index} {row} {acc} {count} {at} w h s =

@@ -22,7 +22,7 @@ abbrev pub textRefusal : List ℕ → ℕ
 textRefusal text = 1 unless isBookText text orelse linesRefusal InText (textLines text)
 
 -- it is a book's text, its lines are whole and s is their survey, and it has `count` numbers
-pub record WholeText (text : List ℕ) (index₀ index₁ : List ℤ) (s : Survey) (count : ℕ) : Type 0 where
+pub record WholeText (text : List ℕ) (index₀ index₁ : List ℕ) (s : Survey) (count : ℕ) : Type 0 where
   pub formed : isBookText text ≡ true
   pub lines : WholeAs InText (textLines text) index₀ index₁ s
   pub counted : count ≡ length (loadedOf text)

@@ -17,9 +17,9 @@ same-length c = search needs
 returns : tie.Need-returns
 unfolding bookRefusal bookOf
 returns c =
-    let a = c .before .before .before .before .before .before .args in
-    let k = c .before .before .before .before .survey-loaded in
-    c .before .settle .ensures InList (loadedLines (a .book .now)) (a .index .now) (survey-loaded (a .book .now) (a .index .now) _ (k .result) (k .ensures))
+    let a = c .before .before .before .before .before .before .before .before .before .args in
+    let k = c .before .before .before .before .before .before .survey-loaded in
+    c .before .before .settle .ensures InList (loadedLines (a .book .now)) (a .index .now) (survey-loaded (a .book .now) (a .index .now) _ (k .result) (k .ensures))
 
 pub load-spec : {M : Type 1} → statement M
 load-spec = tie.close (tie.spec survey-loaded-requires settle-requires same-length returns)

@@ -17,7 +17,7 @@ same-length : tie.Need-same-length
 same-length c = search needs
 
 returns : tie.Need-returns
-returns c = λ form lines index₀ w. c .before .settle-whole .ensures form lines index₀ (rw (c .before .before .before .before .surveyed .given .1) at w)
+returns c = λ form lines index₀ w. c .before .before .settle-whole .ensures form lines index₀ (rw (c .before .before .before .before .before .surveyed .given .1) at w)
 
 returns-2 : tie.Need-returns-2
 returns-2 c = λ form lines index₀ w. broken-refusal form lines (rw (c .enum-told .given .1) at w)

@@ -13,7 +13,7 @@ enum-told : tie.Need-enum-told
 enum-told c = search needs
 
 compare-requires : tie.Need-compare-requires
-compare-requires c κs = (c .before .before .before .before .pre, sym (c .before .before .before .judge .ensures) ∙ ap refusalOf (c .before .enum-told .given .1))
+compare-requires c κs = (c .before .before .before .before .before .pre, sym (c .before .before .before .judge .ensures) ∙ ap refusalOf (c .before .enum-told .given .1))
 
 enum-known-refusal : tie.Need-enum-known-refusal
 enum-known-refusal c = search needs
