@@ -18,7 +18,7 @@ pub const INDEX_SIZE: usize = ENTRIES + 2 * ENTRIES_MOST;
 // Where entry k, counted from 0, stands in the loaded book.
 pub fn entry_place(index: &[u16], k: usize) -> usize
     requires { ⌜ entryHalves k + 1 < length (now index) ⌝ }
-    ensures { λ r. ⌜ (r ≡ entryPlace (now (index .entry)) k) × (r < 2 ^ 32) ⌝ }
+    ensures { λ r. ⌜ r ≡ entryPlace (now (index .entry)) k ⌝ }
 {
     halves::whole_at(index, ENTRIES + 2 * k)
 }

@@ -28,7 +28,7 @@ pub record WholeText (text : List ℕ) (index₀ index₁ : List ℕ) (s : Surve
   pub counted : count ≡ length (loadedOf text)
 
 -- questions 1 and 2 of a text; where both pass, its survey
-abbrev pub TextSurveyIs : List ℕ → List ℤ → List ℤ → TextSurvey → Type 0
+abbrev pub TextSurveyIs : List ℕ → List ℕ → List ℕ → TextSurvey → Type 0
 TextSurveyIs text index₀ index₁ (Whole s count) = WholeText text index₀ index₁ s count
 TextSurveyIs text index₀ index₁ Broken = isBookText text ≡ true → all (isWhole InText) (textLines text) ≡ false
 

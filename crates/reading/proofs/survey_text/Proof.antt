@@ -30,7 +30,7 @@ good c = not-false _ (c .if2 .left)
 
 -- its numbers
 abbrev here : tie.Else2 Inv-loop μ-loop → List ℤ
-here c = numbersAt (c .before .before .before .before .before .before .before .before .before .before .args .text .now) (c .before .before .before .before .before .before .loop .at)
+here c = numbersAt (c .before .before .before .before .before .before .before .before .before .before .before .args .text .now) (c .before .before .before .before .before .before .loop .at)
 
 -- what the row holds of them
 row-is : (c : tie.Else3 Inv-loop μ-loop) → take (c .before .before .before .before .read-row .result .count) (c .before .before .before .before .read-row .last .1 .1 .0) ≡ here (c .before)
@@ -41,13 +41,13 @@ row-is c =
     ∙ filled-take (here (c .before)) (c .before .before .before .before .before .before .before .loop .row) (k .result .count) (k .ensures .counted g) (omega (arith, c .if3 .left, c .before .before .before .before .before .before .before .loop .inv .places))
 
 returns : tie.Need-returns Inv-loop μ-loop
-returns c = λ t. clash t (sym (no-book (c .before .before .args .text .now) (c .if1 .taken)))
+returns c = λ t. clash t (sym (no-book (c .before .before .before .args .text .now) (c .if1 .taken)))
 
 fresh-requires : tie.Need-fresh-requires Inv-loop μ-loop
 fresh-requires c κs = tt
 
 loop-holds : tie.Need-loop-holds Inv-loop μ-loop
-loop-holds c = rw (c .fresh .ensures) (walk-start (c .before .before .before .args .text .now) (c .before .before .before .args .index .now) _ refl)
+loop-holds c = rw (c .fresh .ensures) (walk-start (c .before .before .before .before .args .text .now) (c .before .before .before .before .args .index .now) _ refl)
 
 slice-aggregate-read-row : tie.Need-slice-aggregate-read-row Inv-loop μ-loop
 slice-aggregate-read-row c = sym (c .before .before .loop .inv .places)
@@ -106,22 +106,22 @@ whole c = sym (ap (isWhole InText) (row-is (c .before .before .before))) ∙ sym
 
 add-count : tie.Need-add-count Inv-loop μ-loop
 add-count c =
-    let k = c .before .before .before .before .before .before .before .before .before .before .before .read-row in
-    let n = walk-next (c .before .before .before .before .before .before .before .before .before .before .before .before .before .before .loop .inv) (k .result) (k .ensures) (c .before .before .before .before .before .before .before .before .before .before .before .before .before .loop-test .taken) (good (c .before .before .before .before .before .before .before .before)) (whole (c .before .before .before .before)) in
+    let k = c .before .before .before .before .before .before .before .before .before .before .before .before .read-row in
+    let n = walk-next (c .before .before .before .before .before .before .before .before .before .before .before .before .before .before .before .loop .inv) (k .result) (k .ensures) (c .before .before .before .before .before .before .before .before .before .before .before .before .before .before .loop-test .taken) (good (c .before .before .before .before .before .before .before .before .before)) (whole (c .before .before .before .before .before)) in
     omega (arith, n .short, n .within)
 
 loop-less : tie.Need-loop-less Inv-loop μ-loop
 loop-less c =
-    let k = c .before .before .before .before .before .before .before .before .before .before .before .read-row in
-    let g = good (c .before .before .before .before .before .before .before .before) in
-    omega (arith, row-later (k .ensures) g (whole (c .before .before .before .before)), k .ensures .within g, c .before .before .before .before .before .before .before .before .before .before .before .before .before .loop-test .taken)
+    let k = c .before .before .before .before .before .before .before .before .before .before .before .before .read-row in
+    let g = good (c .before .before .before .before .before .before .before .before .before) in
+    omega (arith, row-later (k .ensures) g (whole (c .before .before .before .before .before)), k .ensures .within g, c .before .before .before .before .before .before .before .before .before .before .before .before .before .before .loop-test .taken)
 
 loop-again : tie.Need-loop-again Inv-loop μ-loop
 loop-again c =
-    let said = c .before .note-line .ensures in
-    let k = c .before .before .before .before .before .before .before .before .before .before .before .read-row in
-    rw (said .0, said .1, row-is (c .before .before .before .before .before .before .before))
-    (walk-next (c .before .before .before .before .before .before .before .before .before .before .before .before .before .before .loop .inv) (k .result) (k .ensures) (c .before .before .before .before .before .before .before .before .before .before .before .before .before .loop-test .taken) (good (c .before .before .before .before .before .before .before .before)) (whole (c .before .before .before .before)))
+    let said = c .before .before .note-line .ensures in
+    let k = c .before .before .before .before .before .before .before .before .before .before .before .before .read-row in
+    rw (said .0, said .1, row-is (c .before .before .before .before .before .before .before .before))
+    (walk-next (c .before .before .before .before .before .before .before .before .before .before .before .before .before .before .before .loop .inv) (k .result) (k .ensures) (c .before .before .before .before .before .before .before .before .before .before .before .before .before .before .loop-test .taken) (good (c .before .before .before .before .before .before .before .before .before)) (whole (c .before .before .before .before .before)))
 
 same-length-4 : tie.Need-same-length-4 Inv-loop μ-loop
 same-length-4 c = c .before .loop .inv .long

@@ -15,7 +15,7 @@ whole-at-requires c κs = search needs
 
 returns : tie.Need-returns
 unfolding entryPlace
-returns c = c .whole-at .ensures
+returns c = c .whole-at .ensures .0
 
 pub entry-place-spec : {M : Type 1} → statement M
 entry-place-spec = tie.close (tie.spec mul-whole-at add-whole-at whole-at-requires returns)

@@ -18,11 +18,11 @@ triple-score-requires c κs = search needs
 
 -- the row so far, and the score of the new triple
 total : (c : tie.After-triple-score)
-    → let a = c .before .before .before .before .before .args in
+    → let a = c .before .before .before .before .before .before .args in
     Got (wordsBound + scoreMost) (i64 (a .s .score) +ℤ i64 (c .triple-score .result)) (a .s .score +ℤ modelScore (a .index .now) (a .t) (a .s .word1) (a .s .word2) (a .y))
 unfolding modelScore
 total c =
-    let s = c .before .before .before .before .before in
+    let s = c .before .before .before .before .before .before in
     let old : i64 (s .args .s .score) ≡ s .args .s .score = search needs in
     let new : i64 (c .triple-score .result) ≡ c .triple-score .result = search needs in
     let u : i64 (s .args .t .unseen) ≡ s .args .t .unseen = search needs in
@@ -37,7 +37,7 @@ add-t11 c = fits (total c) (omega arith)
 returns : tie.Need-returns
 unfolding withWord
 returns c =
-    let s = c .before .before .before .before .before .args in
+    let s = c .before .before .before .before .before .before .args in
     ap {B = Row} (λ (z : ℤ). record { score = z; word1 = s .s .word2; word2 = s .y }) (kept w64 (total c) (omega arith) .is)
 
 cast-t8 : tie.Need-cast-t8

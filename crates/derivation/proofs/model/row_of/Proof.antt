@@ -32,7 +32,7 @@ loop-holds c = (omega arith, (omega arith, λ e h. refl))
 -- src/model.rt:54:31
 add-word-at : tie.Need-add-word-at Inv-loop μ-loop
 add-word-at c =
-    let b = c .before .before .before .before in
+    let b = c .before .before .before .before .before in
     let w = b .pre .1 .is .target-at in
     let i = w .inside in
     search needs
@@ -40,7 +40,7 @@ add-word-at c =
 -- src/model.rt:54:13
 word-at-requires : tie.Need-word-at-requires Inv-loop μ-loop
 word-at-requires c κs =
-    let b = c .before .before .before .before in
+    let b = c .before .before .before .before .before in
     let w = b .pre .1 .is .target-at in
     let i = w .inside in
     let h = c .before .if1 .taken in
@@ -49,7 +49,7 @@ word-at-requires c κs =
 -- src/model.rt:55:9
 add-word-requires : tie.Need-add-word-requires Inv-loop μ-loop
 add-word-requires c κs =
-    let b = c .before .before .before .before .before in
+    let b = c .before .before .before .before .before .before in
     let l = c .before .before .before .before .loop in
     let f = b .pre .1 .is .target-at .few in
     let h = c .before .before .if1 .taken in
@@ -66,7 +66,7 @@ loop-less c = omega arith
 -- src/model.rt:53:5
 loop-again : tie.Need-loop-again Inv-loop μ-loop
 loop-again c =
-    let b = c .before .before .before .before .before .before in
+    let b = c .before .before .before .before .before .before .before in
     let l = c .before .before .before .before .before .loop in
     let h : l .j < b .args .p .count = c .before .before .before .if1 .taken in (
       omega arith,
@@ -83,7 +83,7 @@ loop-again c =
 -- src/model.rt:41:1
 returns : tie.Need-returns Inv-loop μ-loop
 returns c =
-    let b = c .before .before .before in
+    let b = c .before .before .before .before in
     let l = c .before .before .loop in
     let f = b .pre .1 .is .target-at .few in
     let h = c .if1 .left in (

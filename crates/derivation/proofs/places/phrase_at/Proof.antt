@@ -17,15 +17,15 @@ use Rattle.derivation.proofs.Entries.{entry-stands}
 use Rattle.derivation.proofs.places.phrase_at.Statement.{statement}
 use Rattle.derivation.proofs.places.phrase_at.Tie as tie
 
-entry : (c : tie.After-entry-place) → EntryAt (c .before .args .book .now) (c .entry-place .result) (getD (bookOf (c .before .args .book .now) .entries) (c .before .args .k - 1) noEntry)
-entry c = rw (c .entry-place .ensures) (c .before .pre .0 .each (c .before .args .k - 1) (let h = c .before .pre .1 in omega arith))
+entry : (c : tie.After-entry-place) → EntryAt (c .before .before .args .book .now) (c .entry-place .result) (getD (bookOf (c .before .before .args .book .now) .entries) (c .before .before .args .k - 1) noEntry)
+entry c = rw (c .entry-place .ensures) (c .before .before .pre .0 .each (c .before .before .args .k - 1) (let h = c .before .before .pre .1 in omega arith))
 
 -- src/places.rt:17:22
 sub-entry-place : tie.Need-sub-entry-place
 sub-entry-place c = search needs
 
 entry-place-requires : tie.Need-entry-place-requires
-entry-place-requires c κs = omega (arith, c .pre .0 .room, c .pre .0 .few, c .pre .1)
+entry-place-requires c κs = omega (arith, c .before .pre .0 .room, c .before .pre .0 .few, c .before .pre .1)
 
 -- src/places.rt:18:45
 add-natural-at : tie.Need-add-natural-at
@@ -74,7 +74,7 @@ add-t10 c = let h = entry (c .before .before .before) in let i = h .inside in le
 -- src/places.rt:26:12
 cast-t12 : tie.Need-cast-t12
 cast-t12 c =
-    let s = c .before .before .before .before .args in
+    let s = c .before .before .before .before .before .args in
     let at = c .before .before .before .entry-place .result in
     let h = entry (c .before .before .before) in
     let p : i32 (c .number-at .result) ≡ c .number-at .result = search needs in

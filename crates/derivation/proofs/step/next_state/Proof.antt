@@ -16,10 +16,10 @@ use Rattle.derivation.proofs.step.next_state.Statement.{statement}
 use Rattle.derivation.proofs.step.next_state.Tie as tie
 
 total : (c : tie.After-covered-with)
-    → Got (scoreBound + gainBound) (i64 (c .before .before .before .before .before .before .args .s .score) +ℤ i64 (c .before .before .gain .result))
-    (c .before .before .before .before .before .before .args .s .score +ℤ c .before .before .gain .result)
+    → Got (scoreBound + gainBound) (i64 (c .before .before .before .before .before .before .before .args .s .score) +ℤ i64 (c .before .before .gain .result))
+    (c .before .before .before .before .before .before .before .args .s .score +ℤ c .before .before .gain .result)
 total c =
-    let b = c .before .before .before .before .before .before in
+    let b = c .before .before .before .before .before .before .before in
     let old : i64 (b .args .s .score) ≡ b .args .s .score = toZ-ofZ (within-fits w64 {B = scoreBound} (b .pre .1 .1 .score-within) (omega arith)) in
     let new : i64 (c .before .before .gain .result) ≡ c .before .before .gain .result = search needs in
     add (held old (b .pre .1 .1 .score-within)) (held new (c .before .before .gain .ensures .1))
@@ -39,7 +39,7 @@ jump-requires c κs = search needs
 -- src/step.rt:48:9
 gain-requires : tie.Need-gain-requires
 gain-requires c κs =
-    let b = c .before .before .before in
+    let b = c .before .before .before .before in
     let p = b .pre .1 .0 in
     let j = c .jump .ensures in
     let n = b .pre .1 .1 .near in
@@ -60,7 +60,7 @@ add-t15 c = fits (total c) (omega arith)
 -- src/step.rt:41:1
 returns : tie.Need-returns
 returns c = λ e q.
-    let b = c .before .before .before .before .before .before in
+    let b = c .before .before .before .before .before .before .before in
     next-is (b .args .index .now) (b .args .t) (b .args .p) e (b .args .first) (b .args .last) (b .args .s)
     (c .before .before .before .before .before .row-of .result) (c .before .before .before .jump .result) (c .covered-with .result) (c .before .before .gain .result) _
     (c .before .before .before .before .before .row-of .ensures .0 e q) (c .before .before .before .jump .ensures) (c .covered-with .ensures) (c .before .before .gain .ensures .0)
