@@ -8,8 +8,9 @@ use borrow.Author.Tests.{leb-true, leb-false}
 use lib.Dec.{leb}
 use mathlib.Core.List.{List, [], _∷_, _++_, map, map-append, append-assoc, append-nil, List·Memᴰ, Memᴰ·of-map}
 use lib.ListN.{length, getD, set, take, length-set, length-append, length-map, List·getD-append, List·getD-map}
-use lib.Seq.{length-take-le, take-suc-set, getD-take, getD-append-add, getD-set-same, getD-set-other}
-use Rattle.laws.specs.Lists.{keep, concat, numbersFrom, oneTo}
+use lib.Seq.{length-take-le, take-suc-set, getD-take, getD-append-add}
+use Rattle.laws.specs.Lists.{keep, concat, numbersFrom, oneTo, setFrom}
+use Rattle.laws.proofs.Fields.{from-long}
 use Rattle.laws.proofs.Lists.{keep-++, keep-mem, keep-length, count-le, concat-++, numbers-next, numbers-length, getD-mem}
 use Rattle.meaning.specs.Book.{Book}
 use Rattle.meaning.specs.Direction.{wordCount}
@@ -17,6 +18,8 @@ use Rattle.meaning.specs.Derivation.{noStep, fits}
 use Rattle.meaning.specs.Search.{stepAt, fittingSteps}
 use Rattle.meaning.specs.declared.Step.{Step}
 use Rattle.meaning.proofs.Steps.{fits-facts, listed-fits}
+use Rattle.halves.specs.Halves.{halvesOf}
+use Rattle.halves.proofs.Halves.{put-here, put-other, whole-same}
 use Rattle.options.specs.Options.{optionsFrom, startAt, optionIn, fittingAt, fittingTo, entryNumbers, StartPut, Listed, OptionsOf}
 
 -- ════ one entry more
@@ -84,37 +87,21 @@ module _ (book : Book) (direction : List ℕ) (first k : ℕ) {before after : Li
 -- ════ what the records say of each start and option
 
 -- a start is noted as two halves
-module _ (options : List ℕ) (i rest times : ℕ) (inside : i ≤ 32) (long : optionsFrom ≤ length options) where
-  abbrev half : List ℕ
-  half = set options (2 * i) rest
+module _ (options : List ℕ) (i start : ℕ) (inside : i ≤ 32) (long : optionsFrom ≤ length options) where
+  abbrev noted : List ℕ
+  noted = setFrom options (2 * i) (halvesOf start)
 
-  abbrev both : List ℕ
-  both = set half (2 * i + 1) times
-
-  here-is : startAt both i ≡ rest + 65_536 * times
+  other-is : (j : ℕ) → (j ≡ i → ⊥) → startAt noted j ≡ startAt options j
   unfolding startAt
-  here-is =
-      let l = length-set options (2 * i) rest in
-      let a : getD both (2 * i) 0 ≡ rest = getD-set-other half (2 * i + 1) (2 * i) times 0 (λ e. omega arith) ∙ getD-set-same options (2 * i) rest 0 (omega arith) in
-      let b : getD both (2 * i + 1) 0 ≡ times = getD-set-same half (2 * i + 1) times 0 (omega arith) in
-      rw (a, b)
+  other-is j n = whole-same options noted (2 * j) (put-other options (2 * i) start (2 * j) (λ h. omega (arith, n, h))) (put-other options (2 * i) start (2 * j + 1) (λ h. omega (arith, n, h)))
 
-  at-other : (k : ℕ) → (k ≡ 2 * i → ⊥) → (k ≡ 2 * i + 1 → ⊥) → getD both k 0 ≡ getD options k 0
-  at-other k a b = getD-set-other half (2 * i + 1) k times 0 b ∙ getD-set-other options (2 * i) k rest 0 a
-
-  other-is : (j : ℕ) → (j ≡ i → ⊥) → startAt both j ≡ startAt options j
-  unfolding startAt
-  other-is j n =
-      let a : getD both (2 * j) 0 ≡ getD options (2 * j) 0 = at-other (2 * j) (λ e. n (omega arith)) (λ e. omega arith) in
-      let b : getD both (2 * j + 1) 0 ≡ getD options (2 * j + 1) 0 = at-other (2 * j + 1) (λ e. omega arith) (λ e. n (omega arith)) in
-      rw (a, b)
-
-  option-is : (o : ℕ) → optionIn both o ≡ optionIn options o
+  option-is : (o : ℕ) → optionIn noted o ≡ optionIn options o
   unfolding optionIn
-  option-is o = at-other (optionsFrom + o) (λ e. omega arith) (λ e. omega arith)
+  option-is o = put-other options (2 * i) start (optionsFrom + o) (λ h. omega arith)
 
-  pub start-put : (start : ℕ) → rest + 65_536 * times ≡ start → StartPut options both i start
-  start-put start e = record { long = length-set half (2 * i + 1) times ∙ length-set options (2 * i) rest; here = here-is ∙ e; others = other-is; options = option-is }
+  pub start-put : StartPut options noted i start
+  unfolding startAt
+  start-put = record { long = from-long options (2 * i) (halvesOf start); here = put-here options (2 * i) start (omega arith); others = other-is; options = option-is }
 
 -- what stands before the options that were listed is as it was
 module _ {before after : List ℕ} {from count : ℕ} {steps : List Step} (l : Listed before after from count steps) (inside : optionsFrom + from ≤ length before) where
@@ -130,7 +117,7 @@ module _ {before after : List ℕ} {from count : ℕ} {steps : List Step} (l : L
 
   listed-start : (j : ℕ) → j ≤ 32 → startAt after j ≡ startAt before j
   unfolding startAt
-  listed-start j h = rw (below (2 * j) (omega arith), below (2 * j + 1) (omega arith))
+  listed-start j h = whole-same before after (2 * j) (below (2 * j) (omega arith)) (below (2 * j + 1) (omega arith))
 
   listed-below : (p : ℕ) → p < from → optionIn after p ≡ optionIn before p
   unfolding optionIn

@@ -27,24 +27,24 @@ abbrev μ-entries : tie.MeasureT-entries
 -- src/options.rt:63:5
 entries-holds : tie.Need-entries-holds Inv-words μ-words Inv-entries μ-entries
 entries-holds c =
-    let s = c .before .before .args in (omega arith, (omega arith, rw at-none (listed-none (s .options .now) (s .from))))
+    let s = c .before .before .before .args in (omega arith, (omega arith, rw at-none (listed-none (s .options .now) (s .from))))
 
 -- src/options.rt:64:13
 phrase-at-requires : tie.Need-phrase-at-requires Inv-words μ-words Inv-entries μ-entries
 phrase-at-requires c κs =
-    let s = c .before .before .before .before .before in let e = c .before .before .entries .inv in let h = c .if1 .taken in (s .pre .0, (omega arith, omega arith))
+    let s = c .before .before .before .before .before .before in let e = c .before .before .entries .inv in let h = c .if1 .taken in (s .pre .0, (omega arith, omega arith))
 
 -- src/options.rt:65:9
 add-k : tie.Need-add-k Inv-words μ-words Inv-entries μ-entries
-add-k c = let h = c .before .before .before .before .before .before .pre .0 .few in let e = c .before .if1 .taken in omega arith
+add-k c = let h = c .before .before .before .before .before .before .before .pre .0 .few in let e = c .before .if1 .taken in omega arith
 
 -- src/options.rt:66:30
 sub-if2 : tie.Need-sub-if2 Inv-words μ-words Inv-entries μ-entries
-sub-if2 c = let h = c .before .before .before .before .before .before .pre .1 .0 in omega arith
+sub-if2 c = let h = c .before .before .before .before .before .before .before .pre .1 .0 in omega arith
 
 -- src/options.rt:66:30
 add-if2 : tie.Need-add-if2 Inv-words μ-words Inv-entries μ-entries
-add-if2 c = let h = c .before .before .before .before .before .before .before .pre .1 .0 in let w = c .before .phrase-at .ensures .source-at .few in omega arith
+add-if2 c = let h = c .before .before .before .before .before .before .before .before .pre .1 .0 in let w = c .before .phrase-at .ensures .source-at .few in omega arith
 
 -- src/options.rt:63:5
 entries-less : tie.Need-entries-less Inv-words μ-words Inv-entries μ-entries
@@ -53,7 +53,7 @@ entries-less c = let h = c .before .before .before .if1 .taken in omega arith
 -- src/options.rt:63:5
 entries-again : tie.Need-entries-again Inv-words μ-words Inv-entries μ-entries
 entries-again c =
-    let s = c .before .before .before .before .before .before .before .before in
+    let s = c .before .before .before .before .before .before .before .before .before in
     let l = c .before .before .before .before .before .entries in
     let h = c .before .before .before .if1 .taken in
     let p = c .before .before .phrase-at in
@@ -72,12 +72,12 @@ words-holds c = (omega arith, λ e q. refl)
 
 -- word j stands in the book, and its position in the direction
 inside : (c : tie.Then3 Inv-words μ-words Inv-entries μ-entries)
-    → let b = c .before .before .before .before .before .before .before .before .before .before .before .args in
+    → let b = c .before .before .before .before .before .before .before .before .before .before .before .before .args in
     let p = c .before .before .before .before .before .phrase-at .result in
     let j = c .before .before .words .j in
     (j < 8) × ((p .source + j < length (b .book .now)) × ((b .first - 1 + j < length (b .direction .now)) × (b .first ≤ 32)))
 inside c =
-    let h = c .before .before .before .before .before .before .before .before .before .before .before .pre .1 .0 in
+    let h = c .before .before .before .before .before .before .before .before .before .before .before .before .pre .1 .0 in
     let w = c .before .before .before .before .before .phrase-at .ensures .source-at in
     let i = w .inside in
     let f = w .few in
@@ -95,7 +95,7 @@ word-at-requires c κs = inside (c .before) .1 .0
 
 -- src/options.rt:71:64
 sub-if4 : tie.Need-sub-if4 Inv-words μ-words Inv-entries μ-entries
-sub-if4 c = let h = c .before .before .before .before .before .before .before .before .before .before .before .before .before .pre .1 .0 in omega arith
+sub-if4 c = let h = c .before .before .before .before .before .before .before .before .before .before .before .before .before .before .pre .1 .0 in omega arith
 
 -- src/options.rt:71:64
 add-if4 : tie.Need-add-if4 Inv-words μ-words Inv-entries μ-entries
@@ -116,7 +116,7 @@ entries-less-2 c = let h = c .before .before .before .before .before .before .be
 -- src/options.rt:63:5
 entries-again-2 : tie.Need-entries-again-2 Inv-words μ-words Inv-entries μ-entries
 entries-again-2 c =
-    let s = c .before .before .before .before .before .before .before .before .before .before .before .before .before .before .before in
+    let s = c .before .before .before .before .before .before .before .before .before .before .before .before .before .before .before .before in
     let l = c .before .before .before .before .before .before .before .before .before .before .before .before .entries in
     let w = c .before .before .before .before .before .before .words in
     let h = c .before .before .before .before .before .before .before .before .before .before .if1 .taken in
@@ -146,7 +146,7 @@ words-less c = let t = c .before .before .before .before .if3 .taken in omega ar
 -- src/options.rt:70:9
 words-again : tie.Need-words-again Inv-words μ-words Inv-entries μ-entries
 words-again c =
-    let s = c .before .before .before .before .before .before .before .before .before .before .before .before .before .before .before in
+    let s = c .before .before .before .before .before .before .before .before .before .before .before .before .before .before .before .before in
     let w = c .before .before .before .before .before .before .words in
     let o = c .before .before .before .before .before .before .before .if2 .left in
     let p = c .before .before .before .before .before .before .before .before .before .phrase-at in
@@ -165,7 +165,7 @@ small b = omega arith
 -- there is room for one option more
 room : (c : tie.Else3 Inv-words μ-words Inv-entries μ-entries) → optionsFrom + c .before .before .before .before .before .before .before .before .entries .count < length (c .before .before .before .before .before .before .before .before .entries .options)
 room c =
-    let s = c .before .before .before .before .before .before .before .before .before .before .before in
+    let s = c .before .before .before .before .before .before .before .before .before .before .before .before in
     let l = c .before .before .before .before .before .before .before .before .entries in
     entry-room (bookOf (s .args .book .now)) (s .args .direction .now) (s .args .first) (l .k) (l .inv .0) (l .inv .1 .1) (s .args .t .phrases) (c .before .before .before .before .before .before .if1 .taken) (s .pre .1 .1)
 
@@ -175,15 +175,15 @@ sub-options c = omega arith
 
 -- src/options.rt:76:26
 cast-options : tie.Need-cast-options Inv-words μ-words Inv-entries μ-entries
-cast-options c = let h = c .before .before .before .before .before .before .if1 .taken in let f = c .before .before .before .before .before .before .before .before .before .before .before .pre .0 .few in omega arith
+cast-options c = let h = c .before .before .before .before .before .before .if1 .taken in let f = c .before .before .before .before .before .before .before .before .before .before .before .before .pre .0 .few in omega arith
 
 -- src/options.rt:76:9
 add-options : tie.Need-add-options Inv-words μ-words Inv-entries μ-entries
-add-options c = let r = room c in let d = c .before .before .before .before .before .before .before .before .entries .inv .1 .1 .long in let m = small (c .before .before .before .before .before .before .before .before .before .before .before) in omega (arith, r, d, m)
+add-options c = let r = room c in let d = c .before .before .before .before .before .before .before .before .entries .inv .1 .1 .long in let m = small (c .before .before .before .before .before .before .before .before .before .before .before .before) in omega (arith, r, d, m)
 
 -- src/options.rt:76:9
 mul-options : tie.Need-mul-options Inv-words μ-words Inv-entries μ-entries
-mul-options c = let r = room c in let d = c .before .before .before .before .before .before .before .before .entries .inv .1 .1 .long in let m = small (c .before .before .before .before .before .before .before .before .before .before .before) in omega (arith, r, d, m)
+mul-options c = let r = room c in let d = c .before .before .before .before .before .before .before .before .entries .inv .1 .1 .long in let m = small (c .before .before .before .before .before .before .before .before .before .before .before .before) in omega (arith, r, d, m)
 
 -- src/options.rt:76:9
 slice-write-options : tie.Need-slice-write-options Inv-words μ-words Inv-entries μ-entries
@@ -191,7 +191,7 @@ slice-write-options c = room c
 
 -- src/options.rt:77:9
 add-count : tie.Need-add-count Inv-words μ-words Inv-entries μ-entries
-add-count c = let r = room c in let d = c .before .before .before .before .before .before .before .before .entries .inv .1 .1 .long in let m = small (c .before .before .before .before .before .before .before .before .before .before .before) in omega (arith, r, d, m)
+add-count c = let r = room c in let d = c .before .before .before .before .before .before .before .before .entries .inv .1 .1 .long in let m = small (c .before .before .before .before .before .before .before .before .before .before .before .before) in omega (arith, r, d, m)
 
 -- src/options.rt:63:5
 entries-less-3 : tie.Need-entries-less-3 Inv-words μ-words Inv-entries μ-entries
@@ -200,7 +200,7 @@ entries-less-3 c = let h = c .before .before .before .before .before .before .if
 -- src/options.rt:63:5
 entries-again-3 : tie.Need-entries-again-3 Inv-words μ-words Inv-entries μ-entries
 entries-again-3 c =
-    let s = c .before .before .before .before .before .before .before .before .before .before .before in
+    let s = c .before .before .before .before .before .before .before .before .before .before .before .before in
     let l = c .before .before .before .before .before .before .before .before .entries in
     let w = c .before .before .words in
     let h = c .before .before .before .before .before .before .if1 .taken in
@@ -227,7 +227,7 @@ same-length c = c .before .before .entries .inv .1 .1 .long
 -- src/options.rt:46:1
 returns : tie.Need-returns Inv-words μ-words Inv-entries μ-entries
 returns c =
-    let s = c .before .before .before .before .before in
+    let s = c .before .before .before .before .before .before in
     let l = c .before .before .entries in
     let h = c .if1 .left in
     let z : l .k - 1 ≡ s .args .t .phrases = omega arith in

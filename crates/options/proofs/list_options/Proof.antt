@@ -30,22 +30,22 @@ abbrev μ-loop : tie.MeasureT-loop
 
 -- src/lib.rt:128:5
 put-start-requires : tie.Need-put-start-requires Inv-loop μ-loop
-put-start-requires c κs = let h = c .before .before .before .pre .1 .1 in ((omega arith, omega arith), omega arith)
+put-start-requires c κs = let h = c .before .before .before .before .pre .1 .1 in ((omega arith, omega arith), omega arith)
 
 -- src/lib.rt:129:5
 loop-holds : tie.Need-loop-holds Inv-loop μ-loop
 loop-holds c =
-    let s = c .before .before .before .before .before .before in
+    let s = c .before .before .before .before .before .before .before in
     record { inside = omega arith; long = refl; few = omega arith; filled = filled-none (bookOf (s .args .book .now)) (s .args .direction .now) (c .before .before .put-start .ensures) }
 
 -- src/lib.rt:130:54
 add-list-at : tie.Need-add-list-at Inv-loop μ-loop
-add-list-at c = let h = c .before .before .before .before .before .before .before .before .pre .1 .0 in let t = c .loop-test .taken in omega arith
+add-list-at c = let h = c .before .before .before .before .before .before .before .before .before .pre .1 .0 in let t = c .loop-test .taken in omega arith
 
 -- src/lib.rt:130:9
 list-at-requires : tie.Need-list-at-requires Inv-loop μ-loop
 list-at-requires c κs =
-    let s = c .before .before .before .before .before .before .before .before .before in
+    let s = c .before .before .before .before .before .before .before .before .before .before in
     let l = c .before .before .loop .inv in
     let t = c .before .loop-test .taken in
     let d = s .pre .1 .0 in
@@ -63,7 +63,7 @@ add-i c = search needs
 -- src/lib.rt:132:9
 put-start-requires-2 : tie.Need-put-start-requires-2 Inv-loop μ-loop
 put-start-requires-2 c κs =
-    let s = c .before .before .before .before .before .before .before .before .before .before .before .before .before in
+    let s = c .before .before .before .before .before .before .before .before .before .before .before .before .before .before in
     let t = c .before .before .before .before .before .loop-test .taken in
     let l = c .before .before .before .before .before .before .loop in
     let d = s .pre .1 .0 in
@@ -85,7 +85,7 @@ loop-less c = let t = c .before .before .before .before .before .before .before 
 -- src/lib.rt:129:5
 loop-again : tie.Need-loop-again Inv-loop μ-loop
 loop-again c =
-    let s = c .before .before .before .before .before .before .before .before .before .before .before .before .before .before .before .before in
+    let s = c .before .before .before .before .before .before .before .before .before .before .before .before .before .before .before .before .before in
     let l = c .before .before .before .before .before .before .before .before .before .loop in
     let t = c .before .before .before .before .before .before .before .before .loop-test .taken in
     let g = c .before .before .before .before .before .before .list-at in
@@ -113,7 +113,7 @@ same-length c = c .before .loop .inv .long ∙ c .before .before .before .before
 returns : tie.Need-returns Inv-loop μ-loop
 unfolding wordCount
 returns c =
-    let s = c .before .before .before .before .before .before .before .before in
+    let s = c .before .before .before .before .before .before .before .before .before in
     let l = c .before .loop in
     let i = l .inv .inside in
     let t = c .loop-test .left in
