@@ -127,7 +127,7 @@ module _ {loaded : List ℤ} {index : List ℕ} {counts : Counts} {t : Setup} (d
 -- ════ the book is open
 
 -- the places of the entries were put behind what loading left
-pub opened : {loaded before after : List ℤ} {s : Survey} {phrases : ℕ} → Known (bookRefusal loaded) (bookOf loaded) before s → Placed loaded before after phrases
+pub opened : {loaded : List ℤ} {before after : List ℕ} {s : Survey} {phrases : ℕ} → Known (bookRefusal loaded) (bookOf loaded) before s → Placed loaded before after phrases
     → Open loaded after (record { phrases = phrases; triples = s .ts })
 opened {s} r p =
     let few = r .indexed .room .few in

@@ -11,7 +11,7 @@ use Rattle.options.proofs.option_at.Reads as option-at-reads
 
 -- src/lib.rt:58:17
 position-of-requires : tie.Need-position-of-requires
-position-of-requires c κs = let s = c .before .before in (option-starts (s .pre .0) (s .pre .1), (option-from (s .pre .0) (s .pre .1), option-to (s .pre .0) (s .pre .1)))
+position-of-requires c κs = let s = c .before .before .before in (option-starts (s .pre .0) (s .pre .1), (option-from (s .pre .0) (s .pre .1), option-to (s .pre .0) (s .pre .1)))
 
 -- src/lib.rt:58:17
 add-first : tie.Need-add-first
@@ -19,7 +19,7 @@ add-first c = search needs
 
 -- src/lib.rt:59:17
 option-at-requires : tie.Need-option-at-requires
-option-at-requires c κs = let s = c .before .before .before in option-room (s .pre .0) (s .pre .1)
+option-at-requires c κs = let s = c .before .before .before .before in option-room (s .pre .0) (s .pre .1)
 
 -- src/lib.rt:60:69
 cast-phrase-at : tie.Need-cast-phrase-at
@@ -27,7 +27,7 @@ cast-phrase-at c = search needs
 
 -- src/lib.rt:60:9
 phrase-at-requires : tie.Need-phrase-at-requires
-phrase-at-requires c κs = let s = c .before .before .before .before in let e = option-entry (s .pre .0) (s .pre .1) (c .option-at .ensures) in (s .pre .0 .entries-at, (e .0, e .1))
+phrase-at-requires c κs = let s = c .before .before .before .before .before in let e = option-entry (s .pre .0) (s .pre .1) (c .option-at .ensures) in (s .pre .0 .entries-at, (e .0, e .1))
 
 -- src/lib.rt:62:16
 cast-t11 : tie.Need-cast-t11
@@ -47,7 +47,7 @@ cast-t13 c = search needs
 
 -- src/lib.rt:47:1
 returns : tie.Need-returns
-returns c = let s = c .before .before .before .before .before .before in let r = c .before .before .before .position-of .ensures in option-step (s .pre .0) (s .pre .1) (c .before .before .option-at .ensures) (r .0) (r .1 .0) (r .1 .1) (c .before .phrase-at .ensures)
+returns c = let s = c .before .before .before .before .before .before .before in let r = c .before .before .before .position-of .ensures in option-step (s .pre .0) (s .pre .1) (c .before .before .option-at .ensures) (r .0) (r .1 .0) (r .1 .1) (c .before .phrase-at .ensures)
 
 pub step-of-spec : {M : Type 1} → statement M
 step-of-spec =

@@ -40,11 +40,11 @@ mul-step-of c = search needs
 
 -- src/lib.rt:88:97
 shared-slice-read-step-of : tie.Need-shared-slice-read-step-of Inv-loop μ-loop
-shared-slice-read-step-of c = let h = c .before .before .before .before .before .before .before .pre .1 .0 .1 in let t = c .before .loop-test .taken in omega arith
+shared-slice-read-step-of c = let h = c .before .before .before .before .before .before .before .before .pre .1 .0 .1 in let t = c .before .loop-test .taken in omega arith
 
 -- src/lib.rt:88:43
 step-of-requires : tie.Need-step-of-requires Inv-loop μ-loop
-step-of-requires c κs = let s = c .before .before .before .before .before .before .before in (s .pre .0, s .pre .1 .1 (c .before .before .loop .k) (c .before .loop-test .taken))
+step-of-requires c κs = let s = c .before .before .before .before .before .before .before .before in (s .pre .0, s .pre .1 .1 (c .before .before .loop .k) (c .before .loop-test .taken))
 
 -- src/lib.rt:88:9
 with-step-requires : tie.Need-with-step-requires Inv-loop μ-loop
@@ -60,11 +60,11 @@ loop-less c = search needs
 
 -- src/lib.rt:87:5
 loop-again : tie.Need-loop-again Inv-loop μ-loop
-loop-again c = let s = c .before .before .before .before .before .before .before .before .before in let l = c .before .before .before .before .loop in let h = c .before .before .before .loop-test .taken in let f = s .pre .1 .0 .0 in let g = s .pre .1 .0 .1 in (omega arith, steps-more (optionAt (bookOf (s .args .book .now)) (s .args .direction .now)) (s .args .way .now) (omega arith) (omega arith) (l .inv .1 .0) (l .inv .1 .1) (c .before .step-of .ensures) (c .with-step .ensures))
+loop-again c = let s = c .before .before .before .before .before .before .before .before .before .before in let l = c .before .before .before .before .loop in let h = c .before .before .before .loop-test .taken in let f = s .pre .1 .0 .0 in let g = s .pre .1 .0 .1 in (omega arith, steps-more (optionAt (bookOf (s .args .book .now)) (s .args .direction .now)) (s .args .way .now) (omega arith) (omega arith) (l .inv .1 .0) (l .inv .1 .1) (c .before .step-of .ensures) (c .with-step .ensures))
 
 -- src/lib.rt:70:1
 returns : tie.Need-returns Inv-loop μ-loop
-returns c = let s = c .before .before .before .before .before .before in let l = c .before .loop in let e : l .k ≡ s .args .d = omega arith in rw (sym e) (l .inv .1)
+returns c = let s = c .before .before .before .before .before .before .before in let l = c .before .loop in let e : l .k ≡ s .args .d = omega arith in rw (sym e) (l .inv .1)
 
 pub steps-of-spec : {M : Type 1} → statement M
 steps-of-spec =

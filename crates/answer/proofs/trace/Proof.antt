@@ -22,7 +22,7 @@ slice-aggregate-path c = search needs
 
 -- src/lib.rt:149:9
 path-requires : tie.Need-path-requires
-path-requires c κs = let s = c .before .before .before .before in (ends-lead (s .pre .1 .0 .ends) (s .pre .0 .few), omega arith)
+path-requires c κs = let s = c .before .before .before .before .before in (ends-lead (s .pre .1 .0 .ends) (s .pre .0 .few), omega arith)
 
 -- src/lib.rt:150:72
 slice-aggregate-steps-of : tie.Need-slice-aggregate-steps-of
@@ -30,15 +30,15 @@ slice-aggregate-steps-of c = search needs
 
 -- src/lib.rt:150:9
 steps-of-requires : tie.Need-steps-of-requires
-steps-of-requires c κs = let s = c .before .before .before .before .before .before .before in let E = s .pre .1 .0 .ends in let W = c .before .before .path .ensures _ _ (E .list) (E .chains) (E .inside) in let l = way-long E W in let h = E .short in let f = s .pre .0 .few in (s .pre .0, ((omega arith, let k = c .before .before .path .kept .1 .1 .0 in omega arith), λ i h. W .option-in i h))
+steps-of-requires c κs = let s = c .before .before .before .before .before .before .before .before in let E = s .pre .1 .0 .ends in let W = c .before .before .path .ensures _ _ (E .list) (E .chains) (E .inside) in let l = way-long E W in let h = E .short in let f = s .pre .0 .few in (s .pre .0, ((omega arith, let k = c .before .before .path .kept .1 .1 .0 in omega arith), λ i h. W .option-in i h))
 
 -- src/lib.rt:151:9
 write-words-requires : tie.Need-write-words-requires
-write-words-requires c κs = let s = c .before .before .before .before .before .before .before .before .before in let E = s .pre .1 .0 .ends in let W = c .before .before .before .before .path .ensures _ _ (E .list) (E .chains) (E .inside) in let l = way-long E W in let h = E .short in let f = s .pre .0 .few in let p = c .before .steps-of in let n = p .ensures .0 in let r = s .pre .1 .1 in (s .pre .0 .entries-at, ((omega arith, omega arith), step-entry (s .pre .0) (p .result) (c .before .before .before .before .path .last .1 .1 .0) (c .before .before .before .before .path .result) (p .ensures) (λ i h. W .option-in i h)))
+write-words-requires c κs = let s = c .before .before .before .before .before .before .before .before .before .before in let E = s .pre .1 .0 .ends in let W = c .before .before .before .before .path .ensures _ _ (E .list) (E .chains) (E .inside) in let l = way-long E W in let h = E .short in let f = s .pre .0 .few in let p = c .before .steps-of in let n = p .ensures .0 in let r = s .pre .1 .1 in (s .pre .0 .entries-at, ((omega arith, omega arith), step-entry (s .pre .0) (p .result) (c .before .before .before .before .path .last .1 .1 .0) (c .before .before .before .before .path .result) (p .ensures) (λ i h. W .option-in i h)))
 
 -- src/lib.rt:152:9
 place-at-requires : tie.Need-place-at-requires
-place-at-requires c κs = ends-room (c .before .before .before .before .before .before .before .before .before .before .before .before .pre .1 .0 .ends)
+place-at-requires c κs = ends-room (c .before .before .before .before .before .before .before .before .before .before .before .before .before .pre .1 .0 .ends)
 
 -- src/lib.rt:131:1
 same-length : tie.Need-same-length
@@ -52,7 +52,7 @@ returns c =
     let W = c .before .before .before .before .before .before .before .before .before .path .ensures _ _ (E .list) (E .chains) (E .inside) in
     let l = way-long E W in
     let h = E .short in
-    let f = c .before .before .before .before .before .before .before .before .before .before .before .before .before .before .pre .0 .few in
+    let f = c .before .before .before .before .before .before .before .before .before .before .before .before .before .before .before .pre .0 .few in
     let k = c .before .before .before .before .before .before .before .before .before .path .kept .1 .1 .0 in
     told E (c .before .before .before .before .before .before .steps-of .result) W (omega arith) (c .before .before .before .before .before .before .steps-of .ensures) (c .before .before .before .before .write-words .ensures)
     (back ∙ ap (λ (x : Place). x .state .score) (c .before .place-at .ensures))

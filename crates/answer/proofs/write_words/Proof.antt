@@ -43,7 +43,7 @@ cast-phrase-at c = search needs
 
 -- src/lib.rt:107:13
 phrase-at-requires : tie.Need-phrase-at-requires Inv-loop μ-loop
-phrase-at-requires c κs = let s = c .before .before .before .before .before .before in let e = s .pre .1 .1 (c .before .before .before .before .loop .k) (c .before .before .if1 .taken) in let z = ap (λ (x : Step). x .entry) (c .before .step-in .ensures) in (s .pre .0, (rw z (e .0), rw z (e .1)))
+phrase-at-requires c κs = let s = c .before .before .before .before .before .before .before in let e = s .pre .1 .1 (c .before .before .before .before .loop .k) (c .before .before .if1 .taken) in let z = ap (λ (x : Step). x .entry) (c .before .step-in .ensures) in (s .pre .0, (rw z (e .0), rw z (e .1)))
 
 -- src/lib.rt:108:29
 mul-copy-words : tie.Need-mul-copy-words Inv-loop μ-loop
@@ -63,11 +63,11 @@ part-copy-words-end c = search needs
 
 -- src/lib.rt:108:9
 copy-words-requires : tie.Need-copy-words-requires Inv-loop μ-loop
-copy-words-requires c κs = let of = c .before .phrase-at .ensures in let l = c .before .before .before .before .before .before .loop in let f = of .target-at .few in let a = l .inv .1 .0 in let m = l .inv .1 .1 .0 in let r = c .before .before .before .before .before .before .before .before .pre .1 .0 .1 in let h = c .before .before .before .before .if1 .taken in (record { entry = entryAt (bookOf (c .before .before .before .before .before .before .before .before .args .book .now)) _; is = of }, rw (length-take, length-drop) (omega arith))
+copy-words-requires c κs = let of = c .before .phrase-at .ensures in let l = c .before .before .before .before .before .before .loop in let f = of .target-at .few in let a = l .inv .1 .0 in let m = l .inv .1 .1 .0 in let r = c .before .before .before .before .before .before .before .before .before .pre .1 .0 .1 in let h = c .before .before .before .before .if1 .taken in (record { entry = entryAt (bookOf (c .before .before .before .before .before .before .before .before .before .args .book .now)) _; is = of }, rw (length-take, length-drop) (omega arith))
 
 -- src/lib.rt:109:9
 add-count : tie.Need-add-count Inv-loop μ-loop
-add-count c = let of = c .before .before .before .before .before .phrase-at .ensures in let f = of .target-at .few in let a = c .before .before .before .before .before .before .before .before .before .before .loop .inv .1 .0 in let r = c .before .before .before .before .before .before .before .before .before .before .before .before .pre .1 .0 .0 in let h = c .before .before .before .before .before .before .before .before .if1 .taken in omega arith
+add-count c = let of = c .before .before .before .before .before .phrase-at .ensures in let f = of .target-at .few in let a = c .before .before .before .before .before .before .before .before .before .before .loop .inv .1 .0 in let r = c .before .before .before .before .before .before .before .before .before .before .before .before .before .pre .1 .0 .0 in let h = c .before .before .before .before .before .before .before .before .if1 .taken in omega arith
 
 -- src/lib.rt:110:9
 add-k : tie.Need-add-k Inv-loop μ-loop
@@ -80,7 +80,7 @@ loop-less c = search needs
 -- src/lib.rt:105:5
 loop-again : tie.Need-loop-again Inv-loop μ-loop
 loop-again c =
-    let s = c .before .before .before .before .before .before .before .before .before .before .before .before in
+    let s = c .before .before .before .before .before .before .before .before .before .before .before .before .before in
     let l = c .before .before .before .before .before .before .before .before .before .before .loop in
     let k = l .k in
     let book = bookOf (s .args .book .now) in
@@ -101,7 +101,7 @@ same-length c = search needs
 
 -- src/lib.rt:96:1
 returns : tie.Need-returns Inv-loop μ-loop
-returns c = let s = c .before .before .before .before in let l = c .before .before .loop in let e : l .k ≡ s .args .plain .count = omega arith in (l .inv .1 .1 .1 .0 ∙ ap (λ (m : ℕ). length (targetWords (bookOf (s .args .book .now)) (stepsTo (s .args .plain) m))) e, l .inv .1 .1 .1 .1 ∙ ap (λ (m : ℕ). writtenOver (targetWords (bookOf (s .args .book .now)) (stepsTo (s .args .plain) m)) (s .args .words .now)) e)
+returns c = let s = c .before .before .before .before .before in let l = c .before .before .loop in let e : l .k ≡ s .args .plain .count = omega arith in (l .inv .1 .1 .1 .0 ∙ ap (λ (m : ℕ). length (targetWords (bookOf (s .args .book .now)) (stepsTo (s .args .plain) m))) e, l .inv .1 .1 .1 .1 ∙ ap (λ (m : ℕ). writtenOver (targetWords (bookOf (s .args .book .now)) (stepsTo (s .args .plain) m)) (s .args .words .now)) e)
 
 pub write-words-spec : {M : Type 1} → statement M
 write-words-spec =

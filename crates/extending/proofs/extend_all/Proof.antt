@@ -30,7 +30,7 @@ free-runs-requires c κs = search needs
 
 -- src/lib.rt:233:5
 loop-holds : tie.Need-loop-holds Inv-loop μ-loop
-loop-holds c = let s = c .before .before .before .before in (omega arith, (refl, rw (sym (s .pre .0 .choices .options-of .begins)) at (s .pre .1 .1)))
+loop-holds c = let s = c .before .before .before .before .before in (omega arith, (refl, rw (sym (s .pre .0 .choices .options-of .begins)) at (s .pre .1 .1)))
 
 -- src/lib.rt:236:20
 add-t16 : tie.Need-add-t16 Inv-loop μ-loop
@@ -47,7 +47,7 @@ cast-t20 c = search needs
 -- src/lib.rt:239:31
 extend-at-requires : tie.Need-extend-at-requires Inv-loop μ-loop
 extend-at-requires c κs =
-    let s = c .before .before .before .before .before .before .before .before in
+    let s = c .before .before .before .before .before .before .before .before .before in
     let l = c .before .before .before .loop in
     let z : l .i ≡ l .i + 1 - 1 = omega arith in
     (s .pre .0, (spot-at (s .pre .0) (s .pre .1 .0 .0) (s .pre .1 .0 .1) _ (c .before .before .before .before .before .free-runs .ensures) (l .i) (c .before .if1 .taken), rw z at (l .inv .1 .1)))
@@ -86,7 +86,7 @@ same-length-2 c = search needs
 
 -- src/lib.rt:211:1
 returns-2 : tie.Need-returns-2 Inv-loop μ-loop
-returns-2 c = let s = c .before .before .before .before .before .before .before in let l = c .before .before .loop in ended _ _ _ (all-done (s .pre .0) (l .i) (l .inv .0) (c .if1 .left)) (l .inv .1 .1)
+returns-2 c = let s = c .before .before .before .before .before .before .before .before in let l = c .before .before .loop in ended _ _ _ (all-done (s .pre .0) (l .i) (l .inv .0) (c .if1 .left)) (l .inv .1 .1)
 
 pub extend-all-spec : {M : Type 1} → statement M
 extend-all-spec =

@@ -20,7 +20,7 @@ abbrev μ-loop : tie.MeasureT-loop
 μ-loop store₀ count book direction index options beam spot to c₀ o₀ store c o = to - o
 
 returns : tie.Need-returns Inv-loop μ-loop
-returns c = let b = c .before .before .before .before in covered-skips (b .pre .0) (b .pre .1 .0) (c .if1 .taken) (b .pre .1 .1)
+returns c = let b = c .before .before .before .before .before in covered-skips (b .pre .0) (b .pre .1 .0) (c .if1 .taken) (b .pre .1 .1)
 
 cast-jump : tie.Need-cast-jump Inv-loop μ-loop
 cast-jump c = search needs
@@ -29,34 +29,34 @@ jump-requires : tie.Need-jump-requires Inv-loop μ-loop
 jump-requires c κs = search needs
 
 returns-2 : tie.Need-returns-2 Inv-loop μ-loop
-returns-2 c = let b = c .before .before .before .before .before .before .before .before in far-skips (b .pre .0) (b .pre .1 .0) (let h = c .if2 .taken in let e = c .before .before .jump .ensures in omega arith) (b .pre .1 .1)
+returns-2 c = let b = c .before .before .before .before .before .before .before .before .before in far-skips (b .pre .0) (b .pre .1 .0) (let h = c .if2 .taken in let e = c .before .before .jump .ensures in omega arith) (b .pre .1 .1)
 
 start-at-requires : tie.Need-start-at-requires Inv-loop μ-loop
-start-at-requires c κs = let s = c .before .before .before .before .before .before .before .before in spot-starts (s .pre .0) (s .pre .1 .0)
+start-at-requires c κs = let s = c .before .before .before .before .before .before .before .before .before in spot-starts (s .pre .0) (s .pre .1 .0)
 
 sub-start-at : tie.Need-sub-start-at Inv-loop μ-loop
-sub-start-at c = omega (arith, c .before .before .before .before .before .before .before .before .before .before .pre .1 .0 .first-from)
+sub-start-at c = omega (arith, c .before .before .before .before .before .before .before .before .before .before .before .pre .1 .0 .first-from)
 
 start-at-requires-2 : tie.Need-start-at-requires-2 Inv-loop μ-loop
-start-at-requires-2 c κs = let s = c .before .before .before .before .before .before .before .before .before .before in let h = spot-starts (s .pre .0) (s .pre .1 .0) in (omega arith, h .1)
+start-at-requires-2 c κs = let s = c .before .before .before .before .before .before .before .before .before .before .before in let h = spot-starts (s .pre .0) (s .pre .1 .0) in (omega arith, h .1)
 
 loop-holds : tie.Need-loop-holds Inv-loop μ-loop
 loop-holds c =
-    let s = c .before .before .before .before .before .before .before .before .before .before .before in
+    let s = c .before .before .before .before .before .before .before .before .before .before .before .before in
     let f = c .start-at2 .ensures in
     let t = c .before .before .start-at .ensures in
     let r = spot-rises (s .pre .0) (s .pre .1 .0) in
     (omega arith, (omega arith, (refl, rw (sym f) at (s .pre .1 .1))))
 
 option-at-requires : tie.Need-option-at-requires Inv-loop μ-loop
-option-at-requires c κs = let s = c .before .before .before .before .before .before .before .before .before .before .before .before .before in let t = c .before .before .before .before .start-at .ensures in spot-option (s .pre .0) (s .pre .1 .0) _ (let h = c .loop-test .taken in omega arith)
+option-at-requires c κs = let s = c .before .before .before .before .before .before .before .before .before .before .before .before .before .before in let t = c .before .before .before .before .start-at .ensures in spot-option (s .pre .0) (s .pre .1 .0) _ (let h = c .loop-test .taken in omega arith)
 
 cast-entry : tie.Need-cast-entry Inv-loop μ-loop
 cast-entry c = search needs
 
 extend-option-requires : tie.Need-extend-option-requires Inv-loop μ-loop
 extend-option-requires c κs =
-    let s = c .before .before .before .before .before .before .before .before .before .before .before .before .before .before .before in
+    let s = c .before .before .before .before .before .before .before .before .before .before .before .before .before .before .before .before in
     let l = c .before .before .before .loop in
     let t = c .before .before .before .before .before .before .start-at .ensures in
     let e = c .before .option-at .ensures in
@@ -93,7 +93,7 @@ same-length-2 c = search needs
 returns-4 : tie.Need-returns-4 Inv-loop μ-loop
 returns-4 c =
     let l = c .before .loop in
-    let s = c .before .before .before .before .before .before .before .before .before .before .before .before .before in
+    let s = c .before .before .before .before .before .before .before .before .before .before .before .before .before .before in
     let t = c .before .before .before .before .start-at .ensures in
     let e : l .o ≡ startAt (s .args .options .now) (s .args .spot .first) = omega arith in
     rw e at (l .inv .1 .1 .1)

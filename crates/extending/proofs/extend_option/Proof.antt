@@ -17,19 +17,19 @@ phrase-at-requires c κs = search needs
 
 -- src/lib.rt:115:9
 returns : tie.Need-returns
-returns c = let b = c .before .before .before .before .before .before in turn-skips (b .pre .0) (c .before .before .before .phrase-at .ensures) (b .pre .1) (c .if1 .taken)
+returns c = let b = c .before .before .before .before .before .before .before in turn-skips (b .pre .0) (c .before .before .before .phrase-at .ensures) (b .pre .1) (c .if1 .taken)
 
 -- src/lib.rt:117:9
 next-place-requires : tie.Need-next-place-requires
 next-place-requires c κs =
-    let b = c .before .before .before .before .before .before in
+    let b = c .before .before .before .before .before .before .before in
     let of = c .before .before .before .phrase-at .ensures in
     (b .pre .0 .prepared .model, (record { entry = entryAt (bookOf (b .args .book .now)) (b .args .turn .entry); is = of }, turn-can (b .pre .0) of (c .if1 .left)))
 
 -- src/lib.rt:118:5
 grow-requires : tie.Need-grow-requires
 grow-requires c κs =
-    let b = c .before .before .before .before .before .before .before .before in
+    let b = c .before .before .before .before .before .before .before .before .before in
     let of = c .before .before .before .before .before .phrase-at .ensures in
     (b .pre .1 .index, turn-storable (b .pre .0) of (c .before .before .if1 .left) _ (c .before .next-place .ensures _ of))
 
@@ -40,7 +40,7 @@ same-length c = search needs
 -- src/lib.rt:96:1
 returns-2 : tie.Need-returns-2
 returns-2 c =
-    let b = c .before .before .before .before .before .before .before .before .before .before in
+    let b = c .before .before .before .before .before .before .before .before .before .before .before in
     let of = c .before .before .before .before .before .before .before .phrase-at .ensures in
     turn-grows (b .pre .0) of (c .before .before .before .before .if1 .left) _ (c .before .before .before .next-place .ensures _ of) (b .pre .1) _ (c .before .grow .ensures)
 

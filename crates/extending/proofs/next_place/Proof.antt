@@ -25,13 +25,13 @@ next-state-requires c κs = search needs
 
 -- src/lib.rt:74:15
 add-t10 : tie.Need-add-t10
-add-t10 c = let n = c .before .before .before .before .before .before .before .pre .1 .1 .size-small in let l = c .before .before .before .before .before .before .before .pre .1 .0 .is .source-at .few in search needs
+add-t10 c = let n = c .before .before .before .before .before .before .before .before .pre .1 .1 .size-small in let l = c .before .before .before .before .before .before .before .before .pre .1 .0 .is .source-at .few in search needs
 
 -- src/lib.rt:44:1
 returns : tie.Need-returns
 unfolding nextPlace
 returns c = λ e q.
-    let a = c .before .before .before .before .before .before .before .args in
+    let a = c .before .before .before .before .before .before .before .before .args in
     ap {B = Place} (λ (z : State). record { state = z; size = a .turn .spot .source .place .size + a .p .long; parent = a .turn .spot .source .at; option = a .turn .option }) (c .before .before .next-state .ensures e q)
 
 pub next-place-spec : {M : Type 1} → statement M

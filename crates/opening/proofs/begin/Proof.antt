@@ -22,13 +22,13 @@ enum-known-refusal c = search needs
 
 returns : tie.Need-returns
 returns c =
-    let s = c .before .before .before .before .before in
+    let s = c .before .before .before .before .before .before in
     let k = c .before .before .before .check-direction in
     prepared (s .args .direction .now) (s .pre) (reply-number (directionRefusal (s .args .direction .now)) (k .result) (k .ensures) ∙ ap refusalOf (c .before .enum-told .given .1)) (c .setup-of .ensures)
 
 returns-2 : tie.Need-returns-2
 returns-2 c =
-    let s = c .before .before .before .before .before .args in
+    let s = c .before .before .before .before .before .before .args in
     let k = c .before .before .before .check-direction in
     reply-number (directionRefusal (s .direction .now)) (k .result) (k .ensures) ∙ ap refusalOf (c .before .refusal .given .1)
 

@@ -13,7 +13,7 @@ enum-known-counts : tie.Need-enum-known-counts
 enum-known-counts c = search needs
 
 begin-requires : tie.Need-begin-requires
-begin-requires c κs = rw (c .before .before .counts .given .1) at (c .before .before .before .before .before .open-book .ensures)
+begin-requires c κs = rw (c .before .before .counts .given .1) at (c .before .before .before .before .before .before .open-book .ensures)
 
 enum-known-refusal : tie.Need-enum-known-refusal
 enum-known-refusal c = search needs
@@ -23,8 +23,8 @@ same-length c = search needs
 
 returns : tie.Need-returns
 returns c =
-    let a = c .before .before .before .before .before .before .before .before .before .args in
-    let o = rw (c .before .before .before .counts .given .1) at (c .before .before .before .before .before .before .open-book .ensures) in
+    let a = c .before .before .before .before .before .before .before .before .before .before .before .args in
+    let o = rw (c .before .before .before .counts .given .1) at (c .before .before .before .before .before .before .before .open-book .ensures) in
     begun-starts (a .book .now) (a .direction .now) _ (c .begin .result) (o .passed) (c .begin .ensures)
 
 same-length-2 : tie.Need-same-length-2
@@ -32,8 +32,8 @@ same-length-2 c = search needs
 
 returns-2 : tie.Need-returns-2
 returns-2 c =
-    let a = c .before .before .before .before .before .before .before .args in
-    book-refuses (bookRefusal (a .book .now)) (directionRefusal (a .direction .now)) (c .before .refusal .given .0 .0) (rw (c .before .refusal .given .1) at (c .before .before .before .before .open-book .ensures))
+    let a = c .before .before .before .before .before .before .before .before .before .args in
+    book-refuses (bookRefusal (a .book .now)) (directionRefusal (a .direction .now)) (c .before .refusal .given .0 .0) (rw (c .before .refusal .given .1) at (c .before .before .before .before .before .open-book .ensures))
 
 pub open-and-begin-spec : {M : Type 1} → statement M
 open-and-begin-spec =

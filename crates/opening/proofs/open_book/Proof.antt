@@ -12,7 +12,7 @@ enum-known-s : tie.Need-enum-known-s
 enum-known-s c = search needs
 
 find-entries-requires : tie.Need-find-entries-requires
-find-entries-requires c κs = let r = rw (c .before .before .s .given .1) at (c .before .before .before .before .before .load .ensures) in (r .passes, omega (arith, c .before .before .before .before .before .load .kept, c .before .before .before .before .before .before .before .pre))
+find-entries-requires c κs = let r = rw (c .before .before .s .given .1) at (c .before .before .before .before .before .before .load .ensures) in (r .passes, omega (arith, c .before .before .before .before .before .before .load .kept, c .before .before .before .before .before .before .before .before .before .pre))
 
 enum-known-refusal : tie.Need-enum-known-refusal
 enum-known-refusal c = search needs
@@ -21,13 +21,13 @@ same-length : tie.Need-same-length
 same-length c = search needs
 
 returns : tie.Need-returns
-returns c = let r = rw (c .before .before .before .before .s .given .1) at (c .before .before .before .before .before .before .before .load .ensures) in opened r (c .before .find-entries .ensures)
+returns c = let r = rw (c .before .before .before .before .before .s .given .1) at (c .before .before .before .before .before .before .before .before .before .load .ensures) in opened r (c .before .before .find-entries .ensures)
 
 same-length-2 : tie.Need-same-length-2
 same-length-2 c = search needs
 
 returns-2 : tie.Need-returns-2
-returns-2 c = rw (c .before .refusal .given .1) at (c .before .before .before .before .load .ensures)
+returns-2 c = rw (c .before .refusal .given .1) at (c .before .before .before .before .before .load .ensures)
 
 pub open-book-spec : {M : Type 1} → statement M
 open-book-spec =

@@ -31,26 +31,26 @@ module _ (b : tie.Start) where
   n-few = let d = direction-few (b .args .direction .now) (b .pre .0 .directed) in let n = b .pre .0 .n-is in omega arith
 
 -- 16
-fitting : (c : tie.Else1) → fits (theBook (c .before .before .before)) (c .before .before .before .args .direction .now) (theStep (c .before .before .before)) ≡ true
+fitting : (c : tie.Else1) → fits (theBook (c .before .before .before .before)) (c .before .before .before .before .args .direction .now) (theStep (c .before .before .before .before)) ≡ true
 fitting c = sym (c .before .is-fitting .ensures) ∙ not-false _ (c .if1 .left)
 
 -- 17
-free : (c : tie.After-is-free) → c .is-free .result ≡ isFree (theStep (c .before .before .before .before .before)) 1 (theKey (c .before .before .before .before .before) .covered)
+free : (c : tie.After-is-free) → c .is-free .result ≡ isFree (theStep (c .before .before .before .before .before .before)) 1 (theKey (c .before .before .before .before .before .before) .covered)
 free c =
-    let b = c .before .before .before .before .before in
+    let b = c .before .before .before .before .before .before in
     let f = fits-facts (theBook b) (b .args .direction .now) (theStep b) (fitting (c .before .before)) in
     c .is-free .ensures
     ∙ free-is (theStep b) (c .before .free-runs .result .run) (wordCount (b .args .direction .now)) (b .args .s) (rw (b .pre .0 .n-is) at (c .before .free-runs .ensures))
     (f .first-from) (f .first-to)
     (last-inside (b .args .book .now) (b .args .direction .now) (b .args .index .now) (b .args .t) (b .pre .0) (b .args .s) (theStep b) (b .pre .1) (fitting (c .before .before)))
 
-is-free-yes : (c : tie.Else2) → isFree (theStep (c .before .before .before .before .before .before)) 1 (theKey (c .before .before .before .before .before .before) .covered) ≡ true
+is-free-yes : (c : tie.Else2) → isFree (theStep (c .before .before .before .before .before .before .before)) 1 (theKey (c .before .before .before .before .before .before .before) .covered) ≡ true
 is-free-yes c = sym (free (c .before)) ∙ not-false _ (c .if2 .left)
 
 -- 18
-near : (c : tie.Else3) → jump (theKey (c .before .before .before .before .before .before .before .before .before .before) .r) (theStep (c .before .before .before .before .before .before .before .before .before .before)) ≤ theBook (c .before .before .before .before .before .before .before .before .before .before) .limit
+near : (c : tie.Else3) → jump (theKey (c .before .before .before .before .before .before .before .before .before .before .before) .r) (theStep (c .before .before .before .before .before .before .before .before .before .before .before)) ≤ theBook (c .before .before .before .before .before .before .before .before .before .before .before) .limit
 unfolding jump keyOf
-near c = let b = c .before .before .before .before .before .before .before .before .before .before in let l = b .pre .0 .limit-is in let j = c .before .before .jump .ensures in let h = c .if3 .left in omega (arith, l, j, h)
+near c = let b = c .before .before .before .before .before .before .before .before .before .before .before in let l = b .pre .0 .limit-is in let j = c .before .before .jump .ensures in let h = c .if3 .left in omega (arith, l, j, h)
 
 -- src/proposal.rt:69:9
 is-fitting-requires : tie.Need-is-fitting-requires
@@ -58,16 +58,16 @@ is-fitting-requires c κs = search needs
 
 -- src/proposal.rt:70:9
 returns : tie.Need-returns
-returns c = λ rest. let b = c .before .before .before in asked-16 (theBook b) (b .args .direction .now) (theStep b) (theKey b) rest (sym (c .before .is-fitting .ensures) ∙ not-true _ (c .if1 .taken))
+returns c = λ rest. let b = c .before .before .before .before in asked-16 (theBook b) (b .args .direction .now) (theStep b) (theKey b) rest (sym (c .before .is-fitting .ensures) ∙ not-true _ (c .if1 .taken))
 
 -- src/proposal.rt:72:9
 free-runs-requires : tie.Need-free-runs-requires
-free-runs-requires c κs = n-few (c .before .before .before)
+free-runs-requires c κs = n-few (c .before .before .before .before)
 
 -- src/proposal.rt:73:9
 is-free-requires : tie.Need-is-free-requires
 is-free-requires c κs =
-    let b = c .before .before .before .before in
+    let b = c .before .before .before .before .before in
     let f = fits-facts (theBook b) (b .args .direction .now) (theStep b) (fitting (c .before)) in
     let d = direction-few (b .args .direction .now) (b .pre .0 .directed) .1 in
     let l = f .last-to in
@@ -76,7 +76,7 @@ is-free-requires c κs =
 -- src/proposal.rt:74:9
 returns-2 : tie.Need-returns-2
 returns-2 c = λ rest.
-    let b = c .before .before .before .before .before .before in
+    let b = c .before .before .before .before .before .before .before in
     asked-17 (theBook b) (b .args .direction .now) (theStep b) (theKey b) rest (fitting (c .before .before .before)) (sym (free (c .before)) ∙ not-true _ (c .if2 .taken))
 
 -- src/proposal.rt:76:29
@@ -91,7 +91,7 @@ jump-requires c κs = search needs
 returns-3 : tie.Need-returns-3
 unfolding jump keyOf
 returns-3 c = λ rest.
-    let b = c .before .before .before .before .before .before .before .before .before .before in
+    let b = c .before .before .before .before .before .before .before .before .before .before .before in
     let far : b .args .t .limit ≡ theBook b .limit = b .pre .0 .limit-is in
     let j = c .before .before .jump .ensures in
     let h = c .if3 .taken in
@@ -101,7 +101,7 @@ returns-3 c = λ rest.
 -- src/proposal.rt:79:9
 phrase-at-requires : tie.Need-phrase-at-requires
 phrase-at-requires c κs =
-    let b = c .before .before .before .before .before .before .before .before .before .before in
+    let b = c .before .before .before .before .before .before .before .before .before .before .before in
     let f = fits-facts (theBook b) (b .args .direction .now) (theStep b) (fitting (c .before .before .before .before .before .before .before)) in
     let n = b .pre .0 .entries-at .counted in
     let e = f .entry-to in
@@ -110,7 +110,7 @@ phrase-at-requires c κs =
 -- src/proposal.rt:80:17
 next-state-requires : tie.Need-next-state-requires
 next-state-requires c κs =
-    let b = c .before .before .before .before .before .before .before .before .before .before .before in (
+    let b = c .before .before .before .before .before .before .before .before .before .before .before .before in (
       b .pre .0 .model,
       (
         record { entry = entryAt (theBook b) (b .args .entry); is = c .phrase-at .ensures },
@@ -122,7 +122,7 @@ next-state-requires c κs =
 -- src/proposal.rt:47:1
 returns-4 : tie.Need-returns-4
 returns-4 c =
-    let b = c .before .before .before .before .before .before .before .before .before .before .before .before in
+    let b = c .before .before .before .before .before .before .before .before .before .before .before .before .before in
     rw (c .next-state .ensures (entryAt (theBook b) (b .args .entry)) (c .before .phrase-at .ensures))
     (follows (b .args .book .now) (b .args .direction .now) (b .args .index .now) (b .args .t) (b .pre .0) (b .args .s) (theStep b) (b .pre .1) (fitting (c .before .before .before .before .before .before .before .before .before))
     (is-free-yes (c .before .before .before .before .before .before)) (near (c .before .before)) (c .before .phrase-at .result) (c .before .phrase-at .ensures))

@@ -11,13 +11,13 @@ use Rattle.proposal.proofs.is_fitting.Tie as tie
 
 -- src/proposal.rt:37:9
 returns : tie.Need-returns
-returns c = let s = c .before .before .args in not-from (bookOf (s .book .now)) (s .direction .now) (stepOf (s .first) (s .last) (s .entry)) (c .if1 .taken)
+returns c = let s = c .before .before .before .args in not-from (bookOf (s .book .now)) (s .direction .now) (stepOf (s .first) (s .last) (s .entry)) (c .if1 .taken)
 
 -- src/proposal.rt:40:9
 returns-2 : tie.Need-returns-2
-returns-2 c = let s = c .before .before .before .before .args in
+returns-2 c = let s = c .before .before .before .before .before .args in
     let a = c .before .before .if1 .left in
-    let n = c .before .before .before .before .pre .counted in
+    let n = c .before .before .before .before .before .pre .counted in
     let h = c .if2 .taken in
     not-to (bookOf (s .book .now)) (s .direction .now) (stepOf (s .first) (s .last) (s .entry)) (omega arith) (omega arith)
 
@@ -31,9 +31,9 @@ fits-at-requires c κs = search needs
 
 -- src/proposal.rt:23:1
 returns-3 : tie.Need-returns-3
-returns-3 c = let s = c .before .before .before .before .before .before .args in
+returns-3 c = let s = c .before .before .before .before .before .before .before .args in
     let a = c .before .before .before .before .if1 .left in
-    let n = c .before .before .before .before .before .before .pre .counted in
+    let n = c .before .before .before .before .before .before .before .pre .counted in
     let h = c .before .before .if2 .left in
     c .fits-at .ensures (entryAt (bookOf (s .book .now)) (s .entry)) (c .before .phrase-at .ensures)
     ∙ fits-words (bookOf (s .book .now)) (s .direction .now) (stepOf (s .first) (s .last) (s .entry)) (omega arith) (omega arith)

@@ -25,12 +25,12 @@ abbrev μ-loop : tie.MeasureT-loop
 
 -- the step's three numbers stand in the list, which is no longer than memory
 inside : (c : tie.In-loop Inv-loop μ-loop)
-    → let steps = c .before .before .before .before .args .steps .now in
+    → let steps = c .before .before .before .before .before .args .steps .now in
     (3 * c .before .loop .i + 2 < length steps) × (length steps * 2 < 2 ^ 64)
 inside c =
-    let h = c .before .before .before .before .pre .1 in
+    let h = c .before .before .before .before .before .pre .1 in
     let t = c .loop-test .taken in
-    (omega (arith, h, t), small (c .before .before .before .before))
+    (omega (arith, h, t), small (c .before .before .before .before .before))
   where
     small : (b : tie.Start Inv-loop μ-loop) → length (b .args .steps .now) * 2 < 2 ^ 64
     small b = omega arith
@@ -47,31 +47,31 @@ n-few b =
 
 -- one step more is left
 left-next : (c : tie.In-loop Inv-loop μ-loop)
-    → let b = c .before .before .before .before in
+    → let b = c .before .before .before .before .before in
     let l = c .before .loop in
     Scoring (bookOf (b .args .book .now)) (b .args .direction .now) (stepsIn (b .args .steps .now) (b .args .count)) (l .s) (stepIn (b .args .steps .now) (l .i) ∷ rest (b .args .steps .now) (b .args .count) (l .i + 1))
 left-next c =
-    let b = c .before .before .before .before in
+    let b = c .before .before .before .before .before in
     let l = c .before .loop in
     rw (rest-next (b .args .steps .now) (b .args .count) (l .i) (omega (arith, c .loop-test .taken))) at (l .inv .1)
 
 -- none is left
 left-none : (c : tie.After-loop Inv-loop μ-loop)
-    → let b = c .before .before .before .before in
+    → let b = c .before .before .before .before .before in
     Scoring (bookOf (b .args .book .now)) (b .args .direction .now) (stepsIn (b .args .steps .now) (b .args .count)) (c .before .loop .s) []
 left-none c =
-    let b = c .before .before .before .before in
+    let b = c .before .before .before .before .before in
     let l = c .before .loop in
     rw (rest-end (b .args .steps .now) (b .args .count) (l .i) (omega (arith, c .loop-test .left))) at (l .inv .1)
 
 -- all digits
-all-ones : (c : tie.After-covered-with Inv-loop μ-loop) → c .covered-with .result ≡ 2 ^ wordCount (c .before .before .before .before .before .args .direction .now) - 1
-all-ones c = let n = c .before .before .before .before .before .pre .0 .n-is in let e = rw n at (c .covered-with .ensures) in omega (arith, e)
+all-ones : (c : tie.After-covered-with Inv-loop μ-loop) → c .covered-with .result ≡ 2 ^ wordCount (c .before .before .before .before .before .before .args .direction .now) - 1
+all-ones c = let n = c .before .before .before .before .before .before .pre .0 .n-is in let e = rw n at (c .covered-with .ensures) in omega (arith, e)
 
 -- src/proposal.rt:103:5
 loop-holds : tie.Need-loop-holds Inv-loop μ-loop
 loop-holds c =
-    let b = c .before .before .args in
+    let b = c .before .before .before .args in
     (omega arith, rw (rest-start (b .steps .now) (b .count)) (scoring-starts (bookOf (b .book .now)) (b .direction .now) (stepsIn (b .steps .now) (b .count))))
 
 -- src/proposal.rt:104:27
@@ -120,7 +120,7 @@ shared-slice-read-entry c = let h = inside (c .before .before .before) in omega 
 
 -- src/proposal.rt:107:15
 ask-step-requires : tie.Need-ask-step-requires Inv-loop μ-loop
-ask-step-requires c κs = let b = c .before .before .before .before .before .before .before in (b .pre .0, c .before .before .before .before .loop .inv .1 .ready)
+ask-step-requires c κs = let b = c .before .before .before .before .before .before .before .before in (b .pre .0, c .before .before .before .before .loop .inv .1 .ready)
 
 -- src/proposal.rt:108:25
 enum-known-next : tie.Need-enum-known-next Inv-loop μ-loop
@@ -133,7 +133,7 @@ enum-known-refusal c = search needs
 -- src/proposal.rt:109:40
 returns : tie.Need-returns Inv-loop μ-loop
 returns c =
-    let b = c .before .before .before .before .before .before .before .before .before .before .before .args in
+    let b = c .before .before .before .before .before .before .before .before .before .before .before .before .args in
     scoring-stops (bookOf (b .book .now)) (b .direction .now) (left-next (c .before .before .before .before .before .before .before)) (c .before .refusal .given .0 .0) (rw (c .before .refusal .given .1) at (c .before .before .before .ask-step .ensures))
 
 -- src/proposal.rt:111:9
@@ -147,28 +147,28 @@ loop-less c = let t = c .before .before .before .before .before .before .before 
 -- src/proposal.rt:103:5
 loop-again : tie.Need-loop-again Inv-loop μ-loop
 loop-again c =
-    let b = c .before .before .before .before .before .before .before .before .before .before .before .args in
+    let b = c .before .before .before .before .before .before .before .before .before .before .before .before .args in
     let t = c .before .before .before .before .before .before .before .loop-test .taken in
     (omega arith, scoring-goes (bookOf (b .book .now)) (b .direction .now) (left-next (c .before .before .before .before .before .before .before)) (rw (c .before .next .given .1) at (c .before .before .before .ask-step .ensures)))
 
 -- src/proposal.rt:113:21
 covered-with-requires : tie.Need-covered-with-requires Inv-loop μ-loop
 covered-with-requires c κs =
-    let n = n-few (c .before .before .before .before) in
-    let p = pow-mono {i = c .before .before .before .before .args .t .n} {j = 32} (n .1) in
-    let q = pow-pos (c .before .before .before .before .args .t .n) in
+    let n = n-few (c .before .before .before .before .before) in
+    let p = pow-mono {i = c .before .before .before .before .before .args .t .n} {j = 32} (n .1) in
+    let q = pow-pos (c .before .before .before .before .before .args .t .n) in
     (omega arith, (n .0, (n .1, omega (arith, p, q))))
 
 -- src/proposal.rt:114:9
 returns-2 : tie.Need-returns-2 Inv-loop μ-loop
 returns-2 c =
-    let b = c .before .before .before .before .before .before .before .args in
+    let b = c .before .before .before .before .before .before .before .before .args in
     scoring-lacks (bookOf (b .book .now)) (b .direction .now) (left-none (c .before .before .before)) (λ e. c .if1 .taken (e ∙ sym (all-ones (c .before .before))))
 
 -- src/proposal.rt:84:1
 returns-3 : tie.Need-returns-3 Inv-loop μ-loop
 returns-3 c =
-    let b = c .before .before .before .before .before .before .before .before .args in
+    let b = c .before .before .before .before .before .before .before .before .before .args in
     let p : i64 (c .before .before .before .before .before .loop .s .score) ≡ c .before .before .before .before .before .loop .s .score = search needs in
     ap {B = Reply ℤ} done p ∙ scoring-ends (bookOf (b .book .now)) (b .direction .now) (left-none (c .before .before .before .before)) (c .before .if1 .left ∙ all-ones (c .before .before .before))
 

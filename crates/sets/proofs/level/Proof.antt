@@ -26,15 +26,15 @@ abbrev μ-loop : tie.MeasureT-loop
 
 -- src/lib.rt:72:9
 top-score-requires : tie.Need-top-score-requires Inv-loop μ-loop
-top-score-requires c κs = start-room _ _ _ (c .before .before .before .pre .1 .1)
+top-score-requires c κs = start-room _ _ _ (c .before .before .before .before .pre .1 .1)
 
 -- src/lib.rt:75:5
 loop-holds : tie.Need-loop-holds Inv-loop μ-loop
-loop-holds c = (omega arith, (refl, level-starts _ _ _ (c .before .before .before .before .pre .1 .1)))
+loop-holds c = (omega arith, (refl, level-starts _ _ _ (c .before .before .before .before .before .pre .1 .1)))
 
 -- src/lib.rt:76:31
 visit-requires : tie.Need-visit-requires Inv-loop μ-loop
-visit-requires c κs = let s = c .before .before .before .before .before .before .before in let r = c .before .before .before .top-score in let back : toZ w64 (ofZ w64 (r .result)) ≡ r .result = search needs in (s .pre .0, ((s .pre .1 .0, omega (arith, s .pre .1 .1 .long, c .before .loop-test .taken)), (back ∙ top-read _ _ _ (s .pre .1 .1) (r .ensures), c .before .before .loop .inv .1 .1)))
+visit-requires c κs = let s = c .before .before .before .before .before .before .before .before in let r = c .before .before .before .top-score in let back : toZ w64 (ofZ w64 (r .result)) ≡ r .result = search needs in (s .pre .0, ((s .pre .1 .0, omega (arith, s .pre .1 .1 .long, c .before .loop-test .taken)), (back ∙ top-read _ _ _ (s .pre .1 .1) (r .ensures), c .before .before .loop .inv .1 .1)))
 
 -- src/lib.rt:76:23
 enum-known-more : tie.Need-enum-known-more Inv-loop μ-loop
@@ -70,7 +70,7 @@ same-length-2 c = search needs
 
 -- src/lib.rt:53:1
 returns-2 : tie.Need-returns-2 Inv-loop μ-loop
-returns-2 c = level-ends _ _ _ (omega (arith, c .before .before .before .before .before .before .pre .1 .1 .long, c .loop-test .left)) (c .before .loop .inv .1 .1)
+returns-2 c = level-ends _ _ _ (omega (arith, c .before .before .before .before .before .before .before .pre .1 .1 .long, c .loop-test .left)) (c .before .loop .inv .1 .1)
 
 pub level-spec : {M : Type 1} → statement M
 level-spec =

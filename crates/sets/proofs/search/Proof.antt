@@ -28,7 +28,7 @@ abbrev μ-loop : tie.MeasureT-loop
 
 -- src/lib.rt:103:9
 returns : tie.Need-returns Inv-loop μ-loop
-returns c = let s = c .before .before .before in omega (arith, some-state (bookOf (s .args .book .now)) (s .args .direction .now) (s .args .beam .width), c .if1 .taken)
+returns c = let s = c .before .before .before .before in omega (arith, some-state (bookOf (s .args .book .now)) (s .args .direction .now) (s .args .beam .width), c .if1 .taken)
 
 -- src/lib.rt:109:20
 start-requires : tie.Need-start-requires Inv-loop μ-loop
@@ -36,15 +36,15 @@ start-requires c κs = search needs
 
 -- src/lib.rt:105:5
 append-place-requires : tie.Need-append-place-requires Inv-loop μ-loop
-append-place-requires c κs = let s = c .before .before .before .before .before in let h = c .before .before .if1 .left in (indexed-none _ (length (s .args .store .now)) (omega arith) (s .pre .1), (omega arith, record { size-fits = omega arith; parent-fits = omega arith; option-fits = omega arith }))
+append-place-requires c κs = let s = c .before .before .before .before .before .before in let h = c .before .before .if1 .left in (indexed-none _ (length (s .args .store .now)) (omega arith) (s .pre .1), (omega arith, record { size-fits = omega arith; parent-fits = omega arith; option-fits = omega arith }))
 
 -- src/lib.rt:117:5
 loop-holds : tie.Need-loop-holds Inv-loop μ-loop
-loop-holds c = let s = c .before .before .before .before .before .before .before in let a = c .before .append-place in (omega arith, (refl, start-put _ _ _ (direction-to _ (s .pre .0 .prepared .directed)) (c .before .before .start .ensures) refl (a .ensures .0) (a .ensures .1)))
+loop-holds c = let s = c .before .before .before .before .before .before .before .before in let a = c .before .append-place in (omega arith, (refl, start-put _ _ _ (direction-to _ (s .pre .0 .prepared .directed)) (c .before .before .start .ensures) refl (a .ensures .0) (a .ensures .1)))
 
 -- src/lib.rt:118:31
 level-requires : tie.Need-level-requires Inv-loop μ-loop
-level-requires c κs = let l = c .before .before .before .loop in (c .before .before .before .before .before .before .before .before .before .before .before .pre .0, (c .before .if2 .taken, l .inv .1 .1))
+level-requires c κs = let l = c .before .before .before .loop in (c .before .before .before .before .before .before .before .before .before .before .before .before .pre .0, (c .before .if2 .taken, l .inv .1 .1))
 
 -- src/lib.rt:118:23
 enum-known-more : tie.Need-enum-known-more Inv-loop μ-loop
@@ -80,7 +80,7 @@ same-length-2 c = search needs
 
 -- src/lib.rt:86:1
 returns-3 : tie.Need-returns-3 Inv-loop μ-loop
-returns-3 c = let l = c .before .before .loop in all-sets _ _ _ (c .before .before .before .before .before .before .before .before .before .before .pre .0 .prepared .n-is) (l .inv .0) (c .if2 .left) (l .inv .1 .1)
+returns-3 c = let l = c .before .before .loop in all-sets _ _ _ (c .before .before .before .before .before .before .before .before .before .before .before .pre .0 .prepared .n-is) (l .inv .0) (c .if2 .left) (l .inv .1 .1)
 
 pub search-spec : {M : Type 1} → statement M
 search-spec =

@@ -28,17 +28,17 @@ top-is c =
     let p : toZ w64 (ofZ w64 (c .args .candidate .top)) ≡ c .args .candidate .top = search needs in
     p ∙ c .pre .1 .1 .0
 
-tested : (c : tie.After-is-within) → (let s = c .before .before .before .before .before .before .before .before .before .before in
+tested : (c : tie.After-is-within) → (let s = c .before .before .before .before .before .before .before .before .before .before .before in
     c .is-within .result ≡ inWidth (s .args .beam .width) (topOf (bookOf (s .args .book .now)) (s .args .direction .now) (s .args .beam .width) (s .args .candidate .set)) (c .before .before .before .before .before .before .place-at .result .state .score))
 tested c =
-    let s = c .before .before .before .before .before .before .before .before .before .before in
+    let s = c .before .before .before .before .before .before .before .before .before .before .before in
     let y = c .before .before .before .before .before .before .place-at .result .state .score in
     let p : toZ w64 (ofZ w64 (s .args .beam .width)) ≡ s .args .beam .width = search needs in
     c .is-within .ensures ∙ ap (λ (w : ℤ). inWidth w (toZ w64 (ofZ w64 (s .args .candidate .top))) y) p ∙ ap (λ (z : ℤ). inWidth (s .args .beam .width) z y) (top-is s)
 
 -- src/lib.rt:45:9
 place-at-requires : tie.Need-place-at-requires
-place-at-requires c κs = let s = c .before .before .before in here-inside _ _ _ (s .pre .1 .1 .1) (s .pre .1 .0 .1)
+place-at-requires c κs = let s = c .before .before .before .before in here-inside _ _ _ (s .pre .1 .1 .1) (s .pre .1 .0 .1)
 
 -- src/lib.rt:47:9
 same-length : tie.Need-same-length
@@ -46,12 +46,12 @@ same-length c = search needs
 
 -- src/lib.rt:47:9
 returns : tie.Need-returns
-returns c = let s = c .before .before .before .before .before .before .before in passed _ _ _ (s .pre .1 .1 .1) (s .pre .1 .0 .1) (ne-eqb _ _ (λ z. c .if1 .taken (ap (λ (y : Place). y .size) (c .before .before .before .place-at .ensures) ∙ z)))
+returns c = let s = c .before .before .before .before .before .before .before .before in passed _ _ _ (s .pre .1 .1 .1) (s .pre .1 .0 .1) (ne-eqb _ _ (λ z. c .if1 .taken (ap (λ (y : Place). y .size) (c .before .before .before .place-at .ensures) ∙ z)))
 
 -- src/lib.rt:49:9
 is-within-requires : tie.Need-is-within-requires
 is-within-requires c κs =
-    let s = c .before .before .before .before .before .before .before .before .before in
+    let s = c .before .before .before .before .before .before .before .before .before .before in
     let R = s .pre .0 .prepared in
     let l = loaded-ranged _ (R .passed) in
     let few = direction-to _ (R .directed) in
@@ -64,7 +64,7 @@ same-length-2 c = search needs
 -- src/lib.rt:50:9
 returns-2 : tie.Need-returns-2
 returns-2 c =
-    let s = c .before .before .before .before .before .before .before .before .before .before .before in
+    let s = c .before .before .before .before .before .before .before .before .before .before .before .before in
     dropped _ _ _ (s .pre .1 .1 .1) (s .pre .1 .0 .1)
     (ap (λ (y : Place). inWidth (s .args .beam .width) (topOf (bookOf (s .args .book .now)) (s .args .direction .now) (s .args .beam .width) (s .args .candidate .set)) (y .state .score)) (sym (c .before .before .before .before .before .before .before .place-at .ensures))
     ∙ sym (tested (c .before)) ∙ not-true _ (c .if2 .taken))
@@ -72,7 +72,7 @@ returns-2 c =
 -- src/lib.rt:56:5
 extend-all-requires : tie.Need-extend-all-requires
 extend-all-requires c κs =
-    let s = c .before .before .before .before .before .before .before .before .before .before .before .before in
+    let s = c .before .before .before .before .before .before .before .before .before .before .before .before .before in
     let u = to-extend _ _ _ (s .pre .1 .1 .1) (s .pre .1 .0 .1) (c .before .before .before .before .before .before .before .before .place-at .ensures) (c .before .before .before .before .before .if1 .left) (sym (tested (c .before .before)) ∙ not-false _ (c .before .if2 .left)) (let h = s .pre .1 .0 .0 in let e = s .pre .0 .prepared .n-is in omega arith) in
     let h = here-inside _ _ _ (s .pre .1 .1 .1) (s .pre .1 .0 .1) in
     (s .pre .0, ((u .0, search needs), u .1))
