@@ -21,7 +21,7 @@ clear-requires c κs = search needs
 
 -- src/decode.rt:106:11
 search-requires : tie.Need-search-requires
-search-requires c κs = (c .before .before .before .before .before .before .before .pre .0, c .before .before .clear .ensures ∙ ap (λ (m : ℕ). replicate m (pos 0)) (sym (c .before .before .clear .kept .0)))
+search-requires c κs = (c .before .before .before .before .before .before .before .before .pre .0, c .before .before .clear .ensures ∙ ap (λ (m : ℕ). replicate m (pos 0)) (sym (c .before .before .clear .kept .0)))
 
 -- src/decode.rt:108:36
 enum-told : tie.Need-enum-told
@@ -41,7 +41,7 @@ enum-known-count c = search needs
 
 -- src/decode.rt:111:29
 conclude-requires : tie.Need-conclude-requires
-conclude-requires c κs = let s = c .before .before .before .before .before .before .before .before .before .before .before .before .before .before in (s .pre .0 .choices, (rw (c .before .before .before .count .given .1) at (c .before .before .before .before .before .before .search .ensures), s .pre .1))
+conclude-requires c κs = let s = c .before .before .before .before .before .before .before .before .before .before .before .before .before .before .before in (s .pre .0 .choices, (rw (c .before .before .before .count .given .1) at (c .before .before .before .before .before .before .search .ensures), s .pre .1))
 
 -- src/decode.rt:87:1
 same-length : tie.Need-same-length
@@ -49,7 +49,7 @@ same-length c = search needs
 
 -- src/decode.rt:87:1
 returns : tie.Need-returns
-returns c = let s = c .before .before .before .before .before .before .before .before .before .before .before .before .before .before .before in let long = c .before .before .before .before .before .before .before .search .kept .0 ∙ c .before .before .before .before .before .before .before .before .before .before .clear .kept .0 in let o = rw (c .before .before .before .before .enum-told .given .1) at (c .before .before .before .before .before .before .before .search .ensures) in (too-small _ _ _ _ (places-lack _ _ _ (rw long at o)) _ _ _ (c .refused .ensures, refl), c .before .before .clear2 .ensures ∙ ap (λ (m : ℕ). replicate m (pos 0)) long)
+returns c = let s = c .before .before .before .before .before .before .before .before .before .before .before .before .before .before .before .before in let long = c .before .before .before .before .before .before .before .search .kept .0 ∙ c .before .before .before .before .before .before .before .before .before .before .clear .kept .0 in let o = rw (c .before .before .before .before .enum-told .given .1) at (c .before .before .before .before .before .before .before .search .ensures) in (too-small _ _ _ _ (places-lack _ _ _ (rw long at o)) _ _ _ (c .refused .ensures, refl), c .before .before .clear2 .ensures ∙ ap (λ (m : ℕ). replicate m (pos 0)) long)
 
 -- src/decode.rt:87:1
 same-length-2 : tie.Need-same-length-2
