@@ -12,7 +12,6 @@ use lib.Seq.{getD-drop, drop-drop}
 use Rattle.laws.specs.Bits.{one}
 use Rattle.laws.specs.Integers.{Within, natOf}
 use Rattle.laws.specs.Lists.{all, keep, count, setFrom}
-use Rattle.laws.proofs.Fields.{from-long}
 use Rattle.laws.proofs.Lists.{all-at, part-part, dropLast-length, dropLast-getD, keep-length}
 use Rattle.laws.proofs.Tests.{by-test, both}
 use Rattle.meaning.specs.Bounds.{scoreMost}
@@ -22,7 +21,7 @@ use Rattle.meaning.proofs.Ranges.{lines-passed, PLine, p-line}
 use Rattle.halves.specs.Halves.{halvesOf}
 use Rattle.halves.proofs.Halves.{put-here, put-other, whole-same}
 use Rattle.ngrams.specs.Parts.{KeptBelow}
-use Rattle.ngrams.proofs.Parts.{below-all}
+use Rattle.ngrams.proofs.Parts.{below-all, below-from}
 use Rattle.book.specs.Entries.{EntryAt, entriesMost, entriesFrom, indexSize, entryHalves, entryPlace, EntriesAt, withPlace}
 use Rattle.book.proofs.Cuts.{LineAt, lines-end, line-number, line-long, kind-same}
 
@@ -255,5 +254,5 @@ pub place-kept : (loaded : List ℤ) (index : List ℕ) (at count : ℕ) → Kep
 unfolding withPlace
 place-kept loaded index at count =
     by-test (isP (drop at loaded))
-    (λ t. rw t (record { size = from-long index (entryHalves count) (halvesOf at); at = λ j m. put-other index (entryHalves count) at j (λ h. absurd (omega arith)) }))
+    (λ t. rw t (below-from index (entryHalves count) (halvesOf at) (omega arith)))
     (λ f. rw f (below-all entriesFrom index))

@@ -9,7 +9,7 @@ ghost use Rattle.meaning.specs.Book.{isP, bookRefusal};
 ghost use Rattle.book.specs.Entries.{entryHalves, indexSize, entryPlace, withPlace, Placed};
 
 // How many entries there may be, where their places begin, two halves each, and how long the list is with them.
-pub const ENTRIES_MOST: usize = 4096;
+pub const ENTRIES_MOST: usize = lines::PHRASES_MOST;
 
 const ENTRIES: usize = ngrams::RECORDS_END;
 

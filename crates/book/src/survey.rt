@@ -6,9 +6,6 @@ ghost use lib.Dec.{eqb};
 ghost use Rattle.laws.specs.Bits.{one};
 ghost use Rattle.book.specs.Survey.{fresh, withLine, surveyRefusal, Few};
 
-// How many P lines a book may have (question 5); it may have as many T lines as there are records.
-const PHRASES_MOST: usize = 4096;
-
 // What is known of the lines seen so far: how many they are, whether the first is a B line, how many there are of each kind,
 // and whether every number is in its range.
 pub struct Survey {
@@ -84,7 +81,7 @@ pub fn refusal_of(s: Survey) -> usize
     if !s.ranged {
         return 4;
     }
-    if !and_also(s.ps <= PHRASES_MOST, s.ts <= ngrams::RECORDS_MOST) {
+    if !and_also(s.ps <= lines::PHRASES_MOST, s.ts <= lines::TRIPLES_MOST) {
         return 5;
     }
     0

@@ -40,7 +40,7 @@ pub fn word_at(book: &[i32], k: usize) -> u16
     if x < 0 {
         return 0;
     }
-    (x as usize % 65536) as u16
+    (x as usize % lines::WORD_SPAN) as u16
 }
 
 // The row of the entry's target words after the words word1 and word2.

@@ -11,8 +11,13 @@ ghost use Rattle.meaning.specs.Questions.{withinℤ};
 ghost use Rattle.laws.specs.Integers.{natOf};
 ghost use Rattle.meaning.specs.Book.{Form, InText, numberAt, naturalAt, isKind, isPhraseLength, phraseSize, sizeOf, isWhole, isScore, isWord, isPhraseWord, isHistoryWord, isLastWord, rangesB, rangesP, rangesT, isInRange};
 
+// "At most 4,096 P and 8,192 T lines."
+pub const PHRASES_MOST: usize = 4096;
+
+pub const TRIPLES_MOST: usize = 8192;
+
 // The numbers from 0, the start symbol, to the last word.
-const WORD_SPAN: usize = 65536;
+pub const WORD_SPAN: usize = 65536;
 
 // The number, or 0 where it is negative.
 pub fn natural(x: i32) -> usize

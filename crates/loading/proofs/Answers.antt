@@ -1,5 +1,5 @@
 -- Questions 3 to 6 by the survey: what an answer of `surveyRefusal` and of the comparison of the triples says of all lines.
-use Prim.Native.Nat.{ℕ, _+_, _≤_}
+use Prim.Native.Nat.{ℕ, _≤_}
 use native.Mathlib.Omega.{arith}
 use mathlib.Core.Path.{_≡_, refl, sym, _∙_, ap}
 use mathlib.Core.Bool.{Bool, true, false, _&&_}

@@ -3,8 +3,10 @@ use Prim.Native.Nat.{ℕ, _≤_, _<_}
 use mathlib.Core.Path.{refl, _∙_}
 use mathlib.Core.List.{List}
 use native.Mathlib.Omega.{arith}
-use lib.ListN.{getD, set, length-set}
+use lib.ListN.{set, length-set}
 use lib.Seq.{getD-set-other}
+use Rattle.laws.specs.Lists.{setFrom}
+use Rattle.laws.proofs.Fields.{from-long, from-far}
 use Rattle.ngrams.specs.Parts.{KeptFrom, KeptBelow}
 
 pub kept-all : (from : ℕ) (xs : List ℕ) → KeptFrom from xs xs
@@ -22,5 +24,5 @@ below-all to xs = record { size = refl; at = λ k l. refl }
 pub below-then : {to : ℕ} {xs ys zs : List ℕ} → KeptBelow to xs ys → KeptBelow to ys zs → KeptBelow to xs zs
 below-then a b = record { size = b .size ∙ a .size; at = λ k m. b .at k m ∙ a .at k m }
 
-pub below-set : {to : ℕ} (xs : List ℕ) (k : ℕ) (v : ℕ) → to ≤ k → KeptBelow to xs (set xs k v)
-below-set xs k v l = record { size = length-set xs k v; at = λ j m. getD-set-other xs k j v 0 (omega arith) }
+pub below-from : {to : ℕ} (xs : List ℕ) (k : ℕ) (vs : List ℕ) → to ≤ k → KeptBelow to xs (setFrom xs k vs)
+below-from xs k vs l = record { size = from-long xs k vs; at = λ j m. from-far vs xs k j 0 (λ h. absurd (omega arith)) }

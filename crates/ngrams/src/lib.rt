@@ -1,6 +1,7 @@
 // The index of the language model's n-grams, in ONE list that holds what is known of a book, as named parts: the heads of the buckets from 0 on,
 // the links of the records from LINKS on, and the records from RECORDS on, five numbers each (v, w, y, and the score in two halves). What stands from
 // RECORDS_END on is the caller's. A head or a link is 1 + a record's number, or 0.
+use lines::WORD_SPAN;
 ghost use mathlib.Core.Path.{_≡_};
 ghost use mathlib.Core.Bool.{true};
 ghost use Prim.Native.Nat.{_+_, _^_, _<_, _≤_};
@@ -14,13 +15,11 @@ ghost use Rattle.ngrams.specs.Grams.{recordAt, keyAt, scoreAt, shifted, 
 // How many buckets there are, how many records there may be, and how many numbers a record has.
 const BUCKETS: usize = 8192;
 
-pub const RECORDS_MOST: usize = 8192;
+pub const RECORDS_MOST: usize = lines::TRIPLES_MOST;
 
 const RECORD_SIZE: usize = 5;
 
-// The numbers from 0, the start symbol, to the last word; and what is added to a signed number that stands in the list.
-const WORD_SPAN: usize = 65536;
-
+// What is added to a signed number that stands in the list.
 const SIGN_SHIFT: i64 = 2147483648;
 
 // Where the links begin, where the records begin, and where they end.
@@ -76,7 +75,8 @@ fn is_key(index: &[u16], k: usize, key: Key) -> bool
 fn bucket(key: Key) -> usize
     ensures { λ r. ⌜ (r ≡ bucketOf key) × (r < bucketCount) ⌝ }
 {
-    ((key.v % WORD_SPAN) * 40503 + (key.w % WORD_SPAN) * 60493 + (key.y % WORD_SPAN) * 25717) / 16 % BUCKETS
+    ((key.v % WORD_SPAN) * 40503 + (key.w % WORD_SPAN) * 60493 + (key.y % WORD_SPAN) * 25717) / 16
+        % BUCKETS
 }
 
 // Walks the chain of the key's bucket: 1 + the latest of the first `count` records that has its words, or 0.

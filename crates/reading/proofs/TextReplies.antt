@@ -3,7 +3,6 @@ use Prim.Native.Nat.{ℕ}
 use mathlib.Core.Path.{_≡_, sym}
 use mathlib.Core.Bool.{true}
 use mathlib.Core.List.{List}
-use lib.IntN.{ℤ}
 use lib.ListN.{length}
 use Rattle.meaning.specs.Book.{InText, Book, isBookText, textLines, loadedOf, linesRefusal}
 use Rattle.meaning.specs.Reply.{reply, readReply}

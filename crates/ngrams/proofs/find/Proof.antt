@@ -1,5 +1,4 @@
 -- A record of the words lies in their bucket, so the chain of that bucket meets it, latest first. The measure is the place: a link goes to an earlier record.
-use Prim.Native.Nat.{_≤_}
 use mathlib.Core.Path.{sym, _∙_}
 use native.Mathlib.Omega.{arith}
 use borrow.Author.Needs.{needs}

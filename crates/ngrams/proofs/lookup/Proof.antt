@@ -1,5 +1,4 @@
 -- What the search finds is one of the records, so its score stands in the list.
-use Prim.Native.Nat.{_≤_}
 use mathlib.Core.Path.{ap, _∙_}
 use native.Mathlib.Omega.{arith}
 use mir.Facts.{toZ-ofZ}

@@ -1,6 +1,6 @@
 -- A P line's place is put where the caller has room for it; any other line changes nothing.
 use Prim.Native.Nat.{_+_, _<_}
-use mathlib.Core.Path.{_≡_, sym, _∙_}
+use mathlib.Core.Path.{sym, _∙_}
 use native.Mathlib.Omega.{arith}
 use lib.ListN.{length}
 use Rattle.book.specs.Entries.{entryHalves}
