@@ -1,41 +1,73 @@
--- A survey of lines holds what questions 3 to 5 ask of them: its counts are the lines' counts, and its tests the lines' tests.
-use Prim.Native.Nat.{ℕ, zero, suc, _+_, _≤_}
+-- A survey of lines holds what questions 3 to 5 ask of them: its tests are the lines' tests, and its tally has the lines' counts.
+use Prim.Native.Nat.{ℕ, zero, suc, _+_, _-_, _≤_, _<_}
 use native.Mathlib.Omega.{arith}
 use mathlib.Core.Path.{_≡_, refl, sym, _∙_, ap}
-use mathlib.Core.Bool.{Bool, true, false, not, _&&_, and-true, and-assoc}
-use mathlib.Core.List.{List, [], _∷_}
-use borrow.Author.Tests.{eqb-true, eq-eqb, ne-eqb}
+use mathlib.Core.Bool.{Bool, true, false, not, _&&_, and-assoc}
+use mathlib.Core.List.{List, [], _∷_, map}
+use borrow.Author.Tests.{le-leb, lt-leb, eqb-true, eqb-false, eq-eqb, ne-eqb}
 use lib.Dec.{eqb, leb}
 use lib.IntN.{ℤ}
+use lib.ListN.{length, getD, drop, replicate, length-set, length-drop}
+use lib.Seq.{getD-set-same, getD-set-other}
 use Rattle.laws.specs.Bits.{one}
-use Rattle.laws.specs.Lists.{all, any, count}
-use Rattle.laws.proofs.Bits.{one-le}
-use Rattle.laws.proofs.Lists.{count-cons, count-none}
-use Rattle.laws.proofs.Tests.{same-test}
+use Rattle.laws.specs.Lists.{all, any, count, numbersFrom}
+use Rattle.laws.proofs.Lists.{count-cons, count-none, drop-next, numbers-first}
+use Rattle.laws.proofs.Tests.{same-test, by-test}
 use Rattle.meaning.specs.Questions.{_unless_, _orelse_}
-use Rattle.meaning.specs.Book.{Form, phrasesMost, triplesMost, isKind, isB, isP, isT, isWhole, isOneBFirst, isInRange, isNotTooLong, isNoTripleTwice, linesRefusal}
+use Rattle.meaning.specs.Book.{Form, Kind, kinds, isKind, isB, isWhole, areFew, isOneBFirst, isInRange, isNotTooLong, isNoTripleTwice, linesRefusal}
+use Rattle.lines.specs.Kinds.{kindOf, mostOf}
+use Rattle.lines.proofs.Lines.{row-known, kind-row}
 use Rattle.book.specs.declared.survey.Survey.{Survey}
-use Rattle.book.specs.Survey.{fresh, withLine, surveyFrom, surveyRefusal, Few}
+use Rattle.book.specs.Survey.{fresh, withLine, surveyFrom, tallySize, noTally, withKind, tallyFrom, isFew, areAllFew, surveyRefusal, Few}
 
--- ---- the counts and the ranges
+-- ---- the tally
 
--- a count that grows by one with each line of kind k
-count-from : (k : ℕ) (f : Survey → ℕ) → ((acc : Survey) (line : List ℤ) → f (withLine acc line) ≡ f acc + one (isKind k line)) → (acc : Survey) (lines : List (List ℤ)) → f (surveyFrom acc lines) ≡ f acc + count (isKind k) lines
-unfolding surveyFrom
-count-from k f h acc [] = omega arith
-count-from k f h acc (line ∷ lines) = omega (arith, count-from k f h (withLine acc line) lines, h acc line, count-cons (isKind k) line lines)
+-- each line adds one to the count of its kind
+module _ (tally : List ℕ) (line : List ℤ) (long : length tally ≡ tallySize) where
+  pub kind-long : length (withKind tally line) ≡ tallySize
+  unfolding withKind
+  kind-long = length-set tally (kindOf line) (getD tally (kindOf line) 0 + 1) ∙ long
 
-bs-from : (acc : Survey) (lines : List (List ℤ)) → surveyFrom acc lines .bs ≡ acc .bs + count isB lines
-unfolding withLine
-bs-from = count-from 1 (λ s. s .bs) (λ acc line. refl)
+  counted-here : getD (withKind tally line) (kindOf line) 0 ≡ getD tally (kindOf line) 0 + 1
+  unfolding withKind
+  counted-here = getD-set-same tally (kindOf line) (getD tally (kindOf line) 0 + 1) 0 (omega (arith, row-known line))
 
-pub survey-ps : (lines : List (List ℤ)) → surveyFrom fresh lines .ps ≡ count isP lines
-unfolding withLine
-survey-ps lines = count-from 2 (λ s. s .ps) (λ acc line. refl) fresh lines ∙ omega arith
+  counted-else : (k : ℕ) → (kindOf line ≡ k → ⊥) → getD (withKind tally line) k 0 ≡ getD tally k 0
+  unfolding withKind
+  counted-else k n = getD-set-other tally (kindOf line) k (getD tally (kindOf line) 0 + 1) 0 (λ e. n (sym e))
 
-pub survey-ts : (lines : List (List ℤ)) → surveyFrom fresh lines .ts ≡ count isT lines
-unfolding withLine
-survey-ts lines = count-from 3 (λ s. s .ts) (λ acc line. refl) fresh lines ∙ omega arith
+  pub kind-counted : (k : ℕ) → 1 ≤ k → k ≤ length kinds → getD (withKind tally line) k 0 ≡ getD tally k 0 + one (isKind k line)
+  kind-counted k a b =
+      by-test (eqb (kindOf line) k)
+      (λ t. let e = eqb-true (kindOf line) k t in rw (kind-row line k a b, t) (rw e at counted-here))
+      (λ f. let h = counted-else k (eqb-false (kindOf line) k f) in rw (kind-row line k a b, f) (omega arith))
+
+  -- and no count grows by more
+  kind-grows : (k : ℕ) → getD (withKind tally line) k 0 ≤ getD tally k 0 + 1
+  kind-grows k =
+      by-test (eqb (kindOf line) k)
+      (λ t. let e = eqb-true (kindOf line) k t in let h = counted-here in omega (arith, rw e at h))
+      (λ f. let h = counted-else k (eqb-false (kindOf line) k f) in omega arith)
+
+tally-from : (k : ℕ) → 1 ≤ k → k ≤ length kinds → (tally : List ℕ) (lines : List (List ℤ)) → length tally ≡ tallySize → getD (tallyFrom tally lines) k 0 ≡ getD tally k 0 + count (isKind k) lines
+unfolding tallyFrom
+tally-from k a b tally [] l = omega arith
+tally-from k a b tally (line ∷ lines) l =
+    omega (arith, tally-from k a b (withKind tally line) lines (kind-long tally line l), kind-counted tally line l k a b, count-cons (isKind k) line lines)
+
+tally-none : (k : ℕ) → getD noTally k 0 ≡ 0
+tally-none = by tallySize
+  where
+    by : (n k : ℕ) → getD {A = ℕ} (replicate n 0) k 0 ≡ 0
+    by zero k = refl
+    by (suc n) zero = refl
+    by (suc n) (suc k) = by n k
+
+-- the count of each row's lines
+pub tally-is : (k : ℕ) → 1 ≤ k → k ≤ length kinds → (lines : List (List ℤ)) → getD (tallyFrom noTally lines) k 0 ≡ count (isKind k) lines
+tally-is k a b lines = omega (arith, tally-from k a b noTally lines refl, tally-none k)
+
+-- ---- the ranges
 
 survey-ranged : (acc : Survey) (lines : List (List ℤ)) → surveyFrom acc lines .ranged ≡ acc .ranged && all isInRange lines
 unfolding surveyFrom withLine
@@ -53,18 +85,18 @@ unfolding surveyFrom withLine
 survey-first acc n [] e = refl
 survey-first acc n (line ∷ lines) e = survey-first (withLine acc line) (suc n) lines (omega arith) ∙ (let n : eqb (acc .lines) 0 ≡ false = ne-eqb (acc .lines) 0 (omega arith) in rw n)
 
-survey-one : (lines : List (List ℤ)) → surveyFrom fresh lines .headed && eqb (surveyFrom fresh lines .bs) 1 ≡ isOneBFirst lines
+survey-one : (lines : List (List ℤ)) → surveyFrom fresh lines .headed && eqb (getD (tallyFrom noTally lines) 1 0) 1 ≡ isOneBFirst lines
 unfolding surveyFrom withLine isOneBFirst
 survey-one [] = refl
 survey-one (line ∷ lines) =
-    rw (survey-first (withLine fresh line) 0 lines refl, bs-from (withLine fresh line) lines) (by (isB line) (count isB lines) (any isB lines) (count-none isB lines))
+    rw (survey-first (withLine fresh line) 0 lines refl, tally-is 1 (omega arith) (omega arith) (line ∷ lines), count-cons isB line lines) (by (isB line) (count isB lines) (any isB lines) (count-none isB lines))
   where
-    by : (b : Bool) (n : ℕ) (more : Bool) → eqb n 0 ≡ not more → b && eqb (0 + one b + n) 1 ≡ b && not more
+    by : (b : Bool) (n : ℕ) (more : Bool) → eqb n 0 ≡ not more → b && eqb (one b + n) 1 ≡ b && not more
     by false n more e = refl
     by true n more e =
         same-test
-        (λ t. eq-eqb n 0 (let h : 0 + 1 + n ≡ 1 = eqb-true (0 + 1 + n) 1 t in omega arith))
-        (λ t. eq-eqb (0 + 1 + n) 1 (let h : n ≡ 0 = eqb-true n 0 t in omega arith))
+        (λ t. eq-eqb n 0 (let h : 1 + n ≡ 1 = eqb-true (1 + n) 1 t in omega arith))
+        (λ t. eq-eqb (1 + n) 1 (let h : n ≡ 0 = eqb-true n 0 t in omega arith))
         ∙ e
 
 -- ---- the questions
@@ -73,11 +105,24 @@ orelse-assoc : (j k m : ℕ) → (j orelse k) orelse m ≡ j orelse k orelse m
 orelse-assoc zero k m = refl
 orelse-assoc (suc j) k m = refl
 
-survey-few : (lines : List (List ℤ)) → leb (surveyFrom fresh lines .ps) phrasesMost && leb (surveyFrom fresh lines .ts) triplesMost ≡ isNotTooLong lines
-unfolding isNotTooLong
-survey-few lines = rw (survey-ps lines, survey-ts lines, and-true (leb (count isT lines) triplesMost))
+-- question 5, row by row: `most` has what the rows allow from number k on
+few-rows : (most tally : List ℕ) (lines : List (List ℤ)) (k : ℕ) (rows : List Kind) → drop k most ≡ map (λ row. row .most) rows
+    → ((j : ℕ) → k ≤ j → j < k + length rows → getD tally j 0 ≡ count (isKind j) lines) → all (λ j. leb (getD tally j 0) (getD most j 0)) (numbersFrom k (length rows)) ≡ areFew lines k rows
+few-rows most tally lines k [] e h = refl
+few-rows most tally lines k (row ∷ rows) e h =
+    let there : k < length most = omega (arith, ap length e, length-drop k most) in
+    let here = sym (drop-next most k 0 there) ∙ e in
+    let z : k + 1 ≡ suc k = omega arith in
+    let c : getD tally k 0 ≡ count (isKind k) lines = h k (omega arith) (omega arith) in
+    let m : getD most k 0 ≡ row .most = ap (λ xs. getD xs 0 0) here in
+    let rest = few-rows most tally lines (suc k) rows (rw z at (ap (drop 1) here)) (λ j a b. h j (omega arith) (omega arith)) in
+    rw (c, m, rest)
 
-pub survey-refusal : (form : Form) (lines : List (List ℤ)) → all (isWhole form) lines ≡ true → linesRefusal form lines ≡ surveyRefusal (surveyFrom fresh lines) orelse 6 unless isNoTripleTwice lines
+survey-few : (lines : List (List ℤ)) → areAllFew (tallyFrom noTally lines) ≡ isNotTooLong lines
+unfolding isNotTooLong
+survey-few lines = few-rows (0 ∷ map (λ row. row .most) kinds) (tallyFrom noTally lines) lines 2 (drop 1 kinds) refl (λ j a b. tally-is j (omega arith) (omega arith) lines)
+
+pub survey-refusal : (form : Form) (lines : List (List ℤ)) → all (isWhole form) lines ≡ true → linesRefusal form lines ≡ surveyRefusal (surveyFrom fresh lines) (tallyFrom noTally lines) orelse 6 unless isNoTripleTwice lines
 unfolding linesRefusal surveyRefusal
 survey-refusal form lines w =
     rw (w, survey-one lines, survey-ranged fresh lines, survey-few lines)
@@ -90,28 +135,53 @@ unfolding linesRefusal
 broken-refusal form lines w = rw w
 
 -- the questions, asked one after the other
-module _ (s : Survey) where
-  pub refusal-three : s .headed && eqb (s .bs) 1 ≡ false → 3 ≡ surveyRefusal s
+module _ (s : Survey) (tally : List ℕ) where
+  pub refusal-three : s .headed && eqb (getD tally 1 0) 1 ≡ false → 3 ≡ surveyRefusal s tally
   unfolding surveyRefusal
   refusal-three h = rw h
 
-  pub refusal-four : s .headed && eqb (s .bs) 1 ≡ true → s .ranged ≡ false → 4 ≡ surveyRefusal s
+  pub refusal-four : s .headed && eqb (getD tally 1 0) 1 ≡ true → s .ranged ≡ false → 4 ≡ surveyRefusal s tally
   unfolding surveyRefusal
   refusal-four h k = rw (h, k)
 
-  pub refusal-five : s .headed && eqb (s .bs) 1 ≡ true → s .ranged ≡ true → leb (s .ps) phrasesMost && leb (s .ts) triplesMost ≡ false → 5 ≡ surveyRefusal s
+  pub refusal-five : s .headed && eqb (getD tally 1 0) 1 ≡ true → s .ranged ≡ true → areAllFew tally ≡ false → 5 ≡ surveyRefusal s tally
   unfolding surveyRefusal
   refusal-five h k l = rw (h, k, l)
 
-  pub refusal-none : s .headed && eqb (s .bs) 1 ≡ true → s .ranged ≡ true → leb (s .ps) phrasesMost && leb (s .ts) triplesMost ≡ true → 0 ≡ surveyRefusal s
+  pub refusal-none : s .headed && eqb (getD tally 1 0) 1 ≡ true → s .ranged ≡ true → areAllFew tally ≡ true → 0 ≡ surveyRefusal s tally
   unfolding surveyRefusal
   refusal-none h k l = rw (h, k, l)
 
+-- the rows from the second on, asked one after the other
+module _ (tally : List ℕ) where
+  -- how the rows from number k on answer
+  abbrev pub fewFrom : ℕ → Bool
+  fewFrom k = all (isFew tally) (numbersFrom k (tallySize - k))
+
+  few-split : (k : ℕ) → k ≤ length kinds → fewFrom k ≡ isFew tally k && fewFrom (k + 1)
+  few-split k h = ap (all (isFew tally)) (numbers-first k (tallySize - k) (omega arith)) ∙ (let z : (tallySize - k) - 1 ≡ tallySize - (k + 1) = omega arith in rw z)
+
+  pub few-fails : (k : ℕ) → k ≤ length kinds → mostOf k < getD tally k 0 → fewFrom k ≡ false
+  few-fails k h m = few-split k h ∙ rw (lt-leb (getD tally k 0) (mostOf k) m)
+
+  pub few-next : (k : ℕ) → k ≤ length kinds → getD tally k 0 ≤ mostOf k → fewFrom k ≡ fewFrom (k + 1)
+  few-next k h m = few-split k h ∙ rw (le-leb (getD tally k 0) (mostOf k) m)
+
+  pub few-end : (k : ℕ) → length kinds < k → fewFrom k ≡ true
+  few-end k h = let z : suc (length kinds) - k ≡ 0 = omega arith in rw z
+
 -- ---- one line more is one more of each count at most
 
-pub few-line : (acc : Survey) (line : List ℤ) (n : ℕ) → Few acc n → Few (withLine acc line) (n + 1)
-unfolding withLine
-few-line acc line n f = omega (arith, one-le (isB line), one-le (isP line), one-le (isT line))
+pub few-none : Few fresh noTally 0
+few-none = record { few-lines = omega arith; few-each = λ k. omega (arith, tally-none k); each-kind = refl }
 
-pub few-more : {acc : Survey} {m n : ℕ} → Few acc m → m ≤ n → Few acc n
-few-more f h = omega arith
+pub few-line : (acc : Survey) (tally : List ℕ) (line : List ℤ) (n : ℕ) → Few acc tally n → Few (withLine acc line) (withKind tally line) (n + 1)
+unfolding withLine
+few-line acc tally line n f = record {
+  few-lines = omega (arith, f .few-lines);
+  few-each = λ k. omega (arith, f .few-each k, kind-grows tally line (f .each-kind) k);
+  each-kind = kind-long tally line (f .each-kind);
+}
+
+pub few-more : {acc : Survey} {tally : List ℕ} {m n : ℕ} → Few acc tally m → m ≤ n → Few acc tally n
+few-more f h = record { few-lines = omega (arith, f .few-lines); few-each = λ k. omega (arith, f .few-each k); each-kind = f .each-kind }

@@ -1,26 +1,28 @@
 -- What is known of the lines of a book that were seen, and questions 3 to 5 asked of that.
-use Prim.Native.Nat.{ℕ, _+_, _≤_}
-use mathlib.Core.Bool.{true, false, _&&_, cond}
+use Prim.Native.Nat.{ℕ, suc, _+_, _-_, _≤_}
+use mathlib.Core.Path.{_≡_}
+use mathlib.Core.Bool.{Bool, true, false, _&&_, cond}
 use mathlib.Core.List.{List, [], _∷_}
 use lib.Dec.{eqb, leb}
 use lib.IntN.{ℤ}
-use Rattle.laws.specs.Bits.{one}
+use lib.ListN.{length, getD, set, replicate}
+use Rattle.laws.specs.Lists.{all, numbersFrom}
 use Rattle.meaning.specs.Questions.{_unless_, _orelse_}
-use Rattle.meaning.specs.Book.{phrasesMost, triplesMost, isB, isP, isT, isInRange}
+use Rattle.meaning.specs.Book.{kinds, isB, isInRange}
+use Rattle.lines.specs.Kinds.{kindOf, mostOf}
 use Rattle.book.specs.declared.survey.Survey.{Survey}
+
+-- ════ the lines together
 
 -- no line was seen
 abbrev pub fresh : Survey
-fresh = record { lines = 0; headed = false; bs = 0; ps = 0; ts = 0; ranged = true }
+fresh = record { lines = 0; headed = false; ranged = true }
 
 -- one line more
 unfoldable pub withLine : Survey → List ℤ → Survey
 withLine acc line = record {
   lines = acc .lines + 1;
   headed = cond (eqb (acc .lines) 0) (isB line) (acc .headed);
-  bs = acc .bs + one (isB line);
-  ps = acc .ps + one (isP line);
-  ts = acc .ts + one (isT line);
   ranged = acc .ranged && isInRange line;
 }
 
@@ -29,16 +31,44 @@ unfoldable pub surveyFrom : Survey → List (List ℤ) → Survey
 surveyFrom acc [] = acc
 surveyFrom acc (line ∷ lines) = surveyFrom (withLine acc line) lines
 
--- the first of questions 3 to 5 that the lines do not pass, or 0
-unfoldable pub surveyRefusal : Survey → ℕ
-surveyRefusal s =
-    3 unless (s .headed && eqb (s .bs) 1)
-    orelse 4 unless s .ranged
-    orelse 5 unless (leb (s .ps) phrasesMost && leb (s .ts) triplesMost)
+-- ════ how many there are of each kind: number k of the tally, for row k of the table; number 0 is for what is of no kind
 
--- no count passes n
-pub record Few (s : Survey) (n : ℕ) : Type 0 where
+-- how long it is
+abbrev pub tallySize : ℕ
+tallySize = suc (length kinds)
+
+-- no line was seen
+abbrev pub noTally : List ℕ
+noTally = replicate tallySize 0
+
+-- one line more
+unfoldable pub withKind : List ℕ → List ℤ → List ℕ
+withKind tally line = set tally (kindOf line) (getD tally (kindOf line) 0 + 1)
+
+-- the lines from the first on
+unfoldable pub tallyFrom : List ℕ → List (List ℤ) → List ℕ
+tallyFrom tally [] = tally
+tallyFrom tally (line ∷ lines) = tallyFrom (withKind tally line) lines
+
+-- there are no more of kind k than its row allows
+abbrev pub isFew : List ℕ → ℕ → Bool
+isFew tally k = leb (getD tally k 0) (mostOf k)
+
+-- of each kind from the second row on
+abbrev pub areAllFew : List ℕ → Bool
+areAllFew tally = all (isFew tally) (numbersFrom 2 (length kinds - 1))
+
+-- ════ the questions
+
+-- the first of questions 3 to 5 that the lines do not pass, or 0
+unfoldable pub surveyRefusal : Survey → List ℕ → ℕ
+surveyRefusal s tally =
+    3 unless (s .headed && eqb (getD tally 1 0) 1)
+    orelse 4 unless s .ranged
+    orelse 5 unless areAllFew tally
+
+-- a tally with a number for each kind, and none; and no count passes n
+pub record Few (s : Survey) (tally : List ℕ) (n : ℕ) : Type 0 where
   pub few-lines : s .lines ≤ n
-  pub few-bs : s .bs ≤ n
-  pub few-ps : s .ps ≤ n
-  pub few-ts : s .ts ≤ n
+  pub few-each : (k : ℕ) → getD tally k 0 ≤ n
+  pub each-kind : length tally ≡ tallySize

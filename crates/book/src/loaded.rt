@@ -7,6 +7,7 @@ ghost use Prim.Native.Nat.{_≤_};
 ghost use lib.ListN.{length, drop};
 ghost use Rattle.meaning.specs.Book.{isP};
 ghost use Rattle.ngrams.specs.Parts.{recordsEnd};
+ghost use Rattle.book.specs.Survey.{noTally};
 ghost use Rattle.book.specs.Loaded.{sizeAt, SurveyOf};
 
 // The survey of a list whose lines are all whole (question 2), or that one is not.
@@ -35,11 +36,12 @@ pub fn is_entry_at(book: &[i32], at: usize) -> bool
     lines::is_kind(&book[at..], 2)
 }
 
-// What is known of all lines of a loaded list; `index` gets the records of its T lines. Where a line is not whole, what
-// `index` holds afterwards is not said.
-pub fn survey_loaded(book: &[i32], index: &mut [u16]) -> Surveyed
+// What is known of all lines of a loaded list; `index` gets the records of its T lines, and the tally, all zero before, how many
+// lines there are of each kind. Where a line is not whole, what the two hold afterwards is not said.
+pub fn survey_loaded(book: &[i32], index: &mut [u16], tally: &mut [usize]) -> Surveyed
     requires { ⌜ recordsEnd ≤ length (now index) ⌝ }
-    ensures { λ r. ⌜ SurveyOf (now (book .entry)) (now (index .entry)) (now (index .exit)) r ⌝ }
+    requires { ⌜ now tally ≡ noTally ⌝ }
+    ensures { λ r. ⌜ SurveyOf (now (book .entry)) (now (index .entry)) (now (index .exit)) (now (tally .exit)) r ⌝ }
 {
     let mut acc = survey::fresh();
     let mut at = 0;
@@ -48,7 +50,7 @@ pub fn survey_loaded(book: &[i32], index: &mut [u16]) -> Surveyed
         if size == 0 {
             return Surveyed::Broken;
         }
-        acc = grams::note_line(acc, index, &book[at..at + size]);
+        acc = grams::note_line(acc, index, tally, &book[at..at + size]);
         at += size;
     }
     Surveyed::Whole(acc)

@@ -1,19 +1,21 @@
 // What questions 3 to 5 ask of all the lines of a book, gathered one line at a time. The lines of a text and those of a
-// loaded list pass through the same functions.
+// loaded list pass through the same functions. How many lines there are of each kind is a lent list, the tally, with a number
+// for each row of the table of kinds and, as number 0, one for what is of no kind.
 ghost use mathlib.Core.Path.{_≡_};
 ghost use mathlib.Core.Bool.{_&&_, cond};
+ghost use Prim.Native.Nat.{ℕ, _≤_};
 ghost use lib.Dec.{eqb};
-ghost use Rattle.laws.specs.Bits.{one};
-ghost use Rattle.book.specs.Survey.{fresh, withLine, surveyRefusal, Few};
+ghost use lib.ListN.{length, getD};
+ghost use Rattle.book.specs.Survey.{fresh, withLine, tallySize, withKind, areAllFew, surveyRefusal};
 
-// What is known of the lines seen so far: how many they are, whether the first is a B line, how many there are of each kind,
-// and whether every number is in its range.
+// How long the tally is.
+pub const TALLY_SIZE: usize = lines::KINDS + 1;
+
+// What is known of the lines seen so far, beside the tally: how many they are, whether the first is a B line, and whether every
+// number is in its range.
 pub struct Survey {
     pub lines: usize,
     pub headed: bool,
-    pub bs: usize,
-    pub ps: usize,
-    pub ts: usize,
     pub ranged: bool,
 }
 
@@ -24,18 +26,8 @@ pub fn fresh() -> Survey
     Survey {
         lines: 0,
         headed: false,
-        bs: 0,
-        ps: 0,
-        ts: 0,
         ranged: true,
     }
-}
-
-// How many more, where the test passes.
-fn one(test: bool) -> usize
-    ensures { λ r. ⌜ r ≡ one test ⌝ }
-{
-    if test { 1 } else { 0 }
 }
 
 // Both of two tests that were made already.
@@ -54,34 +46,55 @@ fn of_first(lines: usize, here: bool, before: bool) -> bool
 
 // One line more, of which there may be 2 ^ 62 before a count could pass its type.
 pub fn with_line(acc: Survey, line: &[i32]) -> Survey
-    requires { ⌜ Few acc 4611686018427387904 ⌝ }
+    requires { ⌜ acc .lines ≤ 4611686018427387904 ⌝ }
     ensures { λ r. ⌜ r ≡ withLine acc (now (line .entry)) ⌝ }
 {
     let b = lines::is_kind(line, 1);
-    let p = lines::is_kind(line, 2);
-    let t = lines::is_kind(line, 3);
     let ranged = lines::is_in_range(line);
     Survey {
         lines: acc.lines + 1,
         headed: of_first(acc.lines, b, acc.headed),
-        bs: acc.bs + one(b),
-        ps: acc.ps + one(p),
-        ts: acc.ts + one(t),
         ranged: and_also(acc.ranged, ranged),
     }
 }
 
-// The first of questions 3 to 5 that the lines do not pass, or 0.
-pub fn refusal_of(s: Survey) -> usize
-    ensures { λ r. ⌜ r ≡ surveyRefusal s ⌝ }
+// One line more in the tally.
+pub fn count_line(tally: &mut [usize], line: &[i32])
+    requires { ⌜ length (now tally) ≡ tallySize ⌝ }
+    requires { ⌜ ((k : ℕ) → getD (now tally) k 0 ≤ 4611686018427387904) ⌝ }
+    ensures { λ _. ⌜ now (tally .exit) ≡ withKind (now (tally .entry)) (now (line .entry)) ⌝ }
 {
-    if !and_also(s.headed, s.bs == 1) {
+    let k = lines::kind_of(line);
+    tally[k] += 1;
+}
+
+// Question 5: no more of each kind from the second row on than the row allows.
+fn are_all_few(tally: &[usize]) -> bool
+    requires { ⌜ length (now tally) ≡ tallySize ⌝ }
+    ensures { λ r. ⌜ r ≡ areAllFew (now (tally .entry)) ⌝ }
+{
+    let mut k = 2;
+    while k <= lines::KINDS {
+        if lines::most_of(k) < tally[k] {
+            return false;
+        }
+        k += 1;
+    }
+    true
+}
+
+// The first of questions 3 to 5 that the lines do not pass, or 0.
+pub fn refusal_of(s: Survey, tally: &[usize]) -> usize
+    requires { ⌜ length (now tally) ≡ tallySize ⌝ }
+    ensures { λ r. ⌜ r ≡ surveyRefusal s (now (tally .entry)) ⌝ }
+{
+    if !and_also(s.headed, tally[1] == 1) {
         return 3;
     }
     if !s.ranged {
         return 4;
     }
-    if !and_also(s.ps <= lines::PHRASES_MOST, s.ts <= lines::TRIPLES_MOST) {
+    if !are_all_few(tally) {
         return 5;
     }
     0

@@ -1,19 +1,21 @@
 -- What the definitions of a line's size and ranges are at each outcome of the tests that the code makes, one after the other.
-use Prim.Native.Nat.{ℕ, _+_, _-_, _≤_}
+use Prim.Native.Nat.{ℕ, _+_, _-_, _≤_, _<_}
 use native.Mathlib.Omega.{arith}
-use mathlib.Core.Path.{_≡_, refl, sym}
-use mathlib.Core.Bool.{true, false}
+use mathlib.Core.Path.{_≡_, refl, sym, _∙_}
+use mathlib.Core.Bool.{true, false, cond}
 use mathlib.Core.List.{List, [], _∷_, dropLast}
-use lib.Dec.{eqb}
+use borrow.Author.Tests.{leb-true, leb-false, le-leb, lt-leb, ne-eqb}
+use lib.Dec.{eqb, leb}
 use lib.IntN.{ℤ, pos, negsuc, natAbs}
 use lib.Signed.{leZ, ltZ}
 use lib.ListN.{length, drop}
 use Rattle.laws.specs.Integers.{eqℤ, natOf}
 use Rattle.laws.specs.Lists.{all}
-use Rattle.laws.proofs.Tests.{both}
+use Rattle.laws.proofs.Tests.{both, by-test}
 use Rattle.laws.proofs.Linear.{signed}
 use Rattle.meaning.specs.Questions.{withinℤ}
-use Rattle.meaning.specs.Book.{Form, InText, numberAt, naturalAt, isB, isP, isT, isPhraseLength, phraseSize, sizeOf, isWhole, isScore, isPhraseWord, isHistoryWord, isLastWord, rangesB, rangesP, rangesT, isInRange}
+use Rattle.meaning.specs.Book.{kinds, isKind, Form, InText, numberAt, naturalAt, isB, isP, isT, isPhraseLength, phraseSize, sizeOf, isWhole, isScore, isPhraseWord, isHistoryWord, isLastWord, rangesB, rangesP, rangesT, isInRange}
+use Rattle.lines.specs.Kinds.{kindOf}
 
 -- ---- the kind
 
@@ -23,6 +25,29 @@ kind-below z k h = let t : eqℤ z (pos k) ≡ false = omega (arith, signed) in 
 pub kind-from : (z : ℤ) (k : ℕ) → ltZ z (pos 0) ≡ false → eqb (natAbs z) k ≡ eqℤ z (pos k)
 kind-from (pos n) k h = refl
 kind-from (negsuc n) k h = absurd (omega (arith, signed))
+
+-- its row: the number, where the table has a row of that number
+module _ (line : List ℤ) where
+  pub row-of : (k : ℕ) → k ≡ naturalAt line 0 → k ≤ length kinds → k ≡ kindOf line
+  unfolding kindOf
+  row-of k e h = let t : leb (naturalAt line 0) (length kinds) ≡ true = le-leb (naturalAt line 0) (length kinds) (omega arith) in rw (t, e)
+
+  pub row-none : (k : ℕ) → k ≡ naturalAt line 0 → length kinds < k → 0 ≡ kindOf line
+  unfolding kindOf
+  row-none k e h = let f : leb (naturalAt line 0) (length kinds) ≡ false = lt-leb (naturalAt line 0) (length kinds) (omega arith) in rw f
+
+  pub row-known : kindOf line ≤ length kinds
+  unfolding kindOf
+  row-known = by-test (leb (naturalAt line 0) (length kinds)) (λ t. rw t (leb-true (naturalAt line 0) (length kinds) t)) (λ f. rw f (omega arith))
+
+  -- a line is of kind k where its row is row k
+  pub kind-row : (k : ℕ) → 1 ≤ k → k ≤ length kinds → isKind k line ≡ eqb (kindOf line) k
+  unfolding kindOf
+  kind-row k a b = by (numberAt line 0)
+    where
+      by : (z : ℤ) → eqℤ z (pos k) ≡ eqb (cond (leb (natOf z) (length kinds)) (natOf z) 0) k
+      by (pos n) = by-test (leb n (length kinds)) (λ t. rw t) (λ f. let far = leb-false n (length kinds) f in rw f (ne-eqb n k (omega arith) ∙ sym (ne-eqb 0 k (omega arith))))
+      by (negsuc n) = sym (ne-eqb 0 k (omega arith))
 
 -- ---- the size
 

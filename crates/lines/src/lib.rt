@@ -2,19 +2,25 @@
 // are judged by the same functions.
 ghost use mathlib.Core.Path.{_≡_};
 ghost use mathlib.Core.List.{dropLast};
-ghost use Prim.Native.Nat.{_-_, _%_};
+ghost use Prim.Native.Nat.{_-_, _%_, _≤_};
 ghost use lib.IntN.{pos, negℤ};
 ghost use lib.ListN.{length, drop};
 ghost use Rattle.laws.specs.Lists.{all};
 ghost use Rattle.meaning.specs.Bounds.{wordSpan};
 ghost use Rattle.meaning.specs.Questions.{withinℤ};
 ghost use Rattle.laws.specs.Integers.{natOf};
-ghost use Rattle.meaning.specs.Book.{Form, InText, numberAt, naturalAt, isKind, isPhraseLength, phraseSize, sizeOf, isWhole, isScore, isWord, isPhraseWord, isHistoryWord, isLastWord, rangesB, rangesP, rangesT, isInRange};
+ghost use Rattle.meaning.specs.Book.{Form, InText, numberAt, naturalAt, isKind, isPhraseLength, phraseSize, sizeOf, isWhole, isScore, isWord, isPhraseWord, isHistoryWord, isLastWord, rangesB, rangesP, rangesT, isInRange, kinds};
+ghost use Rattle.lines.specs.Kinds.{kindOf, mostOf};
 
 // "At most 4,096 P and 8,192 T lines."
 pub const PHRASES_MOST: usize = 4096;
 
 pub const TRIPLES_MOST: usize = 8192;
+
+// How many kinds there are, and how many lines of each a book may have, by the kind's number; there is no kind 0.
+pub const KINDS: usize = 3;
+
+const MOST: [usize; 4] = [0, 1, PHRASES_MOST, TRIPLES_MOST];
 
 // The numbers from 0, the start symbol, to the last word.
 pub const WORD_SPAN: usize = 65536;
@@ -53,6 +59,22 @@ pub fn is_kind(line: &[i32], k: usize) -> bool
 {
     let x = number_at(line, 0);
     if x < 0 { false } else { x as usize == k }
+}
+
+// The kind of the line, the number of its row in the table; 0 where it is of none.
+pub fn kind_of(line: &[i32]) -> usize
+    ensures { λ r. ⌜ r ≡ kindOf (now (line .entry)) ⌝ }
+{
+    let k = natural_at(line, 0);
+    if k <= KINDS { k } else { 0 }
+}
+
+// How many lines of kind k a book may have.
+pub fn most_of(k: usize) -> usize
+    requires { ⌜ k ≤ length kinds ⌝ }
+    ensures { λ r. ⌜ r ≡ mostOf k ⌝ }
+{
+    MOST[k]
 }
 
 // The number of source or of target words of a P line.

@@ -4,7 +4,6 @@ use mathlib.Core.Path.{_≡_}
 use mathlib.Core.Bool.{true, false}
 use mathlib.Core.List.{List}
 use lib.IntN.{ℤ}
-use lib.ListN.{length}
 use Rattle.laws.specs.Lists.{all, noneTwice}
 use Rattle.meaning.specs.Questions.{number}
 use Rattle.meaning.specs.Book.{Form, isWhole, Book}
@@ -14,7 +13,7 @@ use Rattle.ngrams.specs.Grams.{keysIn, triplesIn, sameKey, Indexed}
 use Rattle.book.specs.declared.survey.Survey.{Survey}
 use Rattle.book.specs.declared.loaded.Surveyed.{Surveyed}
 use Rattle.book.specs.declared.loaded.Surveyed.the-variants.{Whole, Broken}
-use Rattle.book.specs.Survey.{fresh, surveyFrom}
+use Rattle.book.specs.Survey.{fresh, surveyFrom, noTally, tallyFrom}
 use Rattle.book.specs.Grams.{gramsFrom}
 use Rattle.loading.specs.declared.load.Loaded.{Loaded}
 use Rattle.loading.specs.declared.load.Loaded.the-variants.{Book as Passes, Refused}
@@ -26,34 +25,34 @@ refusalOf (CheckRefused refusal) = number refusal
 
 -- ════ the survey of lines
 
--- the lines are whole, s is what is known of them, and their records were put into the list that was `index₀`
-pub record WholeAs (form : Form) (lines : List (List ℤ)) (index₀ index₁ : List ℕ) (s : Survey) : Type 0 where
+-- the lines are whole, s is what is known of them and `tally` how many there are of each kind, and their records were put into
+-- the list that was `index₀`
+pub record WholeAs (form : Form) (lines : List (List ℤ)) (index₀ index₁ tally : List ℕ) (s : Survey) : Type 0 where
   pub whole : all (isWhole form) lines ≡ true
   pub surveyed : s ≡ surveyFrom fresh lines
+  pub tallied : tally ≡ tallyFrom noTally lines
   pub gathered : index₁ ≡ gramsFrom index₀ 0 lines
 
 -- question 2 of all lines; where it passes, their survey
-abbrev pub SurveyIs : Form → List (List ℤ) → List ℕ → List ℕ → Surveyed → Type 0
-SurveyIs form lines index₀ index₁ (Whole s) = WholeAs form lines index₀ index₁ s
-SurveyIs form lines index₀ index₁ Broken = all (isWhole form) lines ≡ false
+abbrev pub SurveyIs : Form → List (List ℤ) → List ℕ → List ℕ → List ℕ → Surveyed → Type 0
+SurveyIs form lines index₀ index₁ tally (Whole s) = WholeAs form lines index₀ index₁ tally s
+SurveyIs form lines index₀ index₁ tally Broken = all (isWhole form) lines ≡ false
 
 -- ════ what questions 2 to 6 answer
 
--- none refuses: how many entries and triples the book has, and its triples as indexed records
-pub record Known (refusal : ℕ) (book : Book) (index : List ℕ) (s : Survey) : Type 0 where
+-- none refuses: how many triples the book has, and its triples as indexed records
+pub record Known (refusal : ℕ) (book : Book) (index : List ℕ) (triples : ℕ) : Type 0 where
   pub passes : refusal ≡ 0
-  pub ps-is : s .ps ≡ length (book .entries)
-  pub ts-is : s .ts ≡ length (book .triples)
-  pub triples-are : triplesIn index (s .ts) ≡ book .triples
-  pub different : noneTwice sameKey (keysIn index (s .ts)) ≡ true
-  pub indexed : Indexed index (s .ts)
+  pub triples-are : triplesIn index triples ≡ book .triples
+  pub different : noneTwice sameKey (keysIn index triples) ≡ true
+  pub indexed : Indexed index triples
 
 -- of lines or a list that the questions answer with `refusal`, 0 for none, and that state the book `book`
 abbrev pub Answered : ℕ → Book → List ℕ → Loaded → Type 0
-Answered refusal book index (Passes s) = Known refusal book index s
+Answered refusal book index (Passes triples) = Known refusal book index triples
 Answered refusal book index (Refused question) = refusal ≡ number question
 
 -- the answer without what a search needs
 abbrev pub replied : Loaded → Checked
-replied (Passes s) = Passed
+replied (Passes triples) = Passed
 replied (Refused refusal) = CheckRefused refusal

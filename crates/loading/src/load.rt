@@ -7,26 +7,29 @@ use book::survey::Survey;
 use meaning::Checked;
 use meaning::Refusal;
 ghost use mathlib.Core.Path.{_≡_};
+ghost use mathlib.Core.Bool.{true};
 ghost use mathlib.Core.List.{List};
 ghost use lib.IntN.{ℤ};
 ghost use lib.ListN.{length};
 ghost use Rattle.meaning.specs.Book.{Form, linesRefusal, bookOfLines, bookRefusal, bookOf};
 ghost use Prim.Native.Nat.{ℕ, _≤_};
 ghost use Rattle.ngrams.specs.Parts.{recordsEnd};
-ghost use Rattle.book.specs.Survey.{surveyRefusal};
+ghost use Rattle.book.specs.declared.survey.Survey.{Survey};
+ghost use Rattle.book.specs.Survey.{tallySize, areAllFew, surveyRefusal};
 ghost use Rattle.loading.specs.Loaded.{refusalOf, WholeAs, SurveyIs, Answered};
 
-// What the lines of a book answer to questions 2 to 6: what is known of them all, or the refusal.
+// What the lines of a book answer to questions 2 to 6: how many of them are T lines, or the refusal.
 pub enum Loaded {
-    Book(Survey),
+    Book(usize),
     Refused(Refusal),
 }
 
 // Questions 3 to 5, of all lines.
-fn judge(s: Survey) -> Checked
-    ensures { λ r. ⌜ refusalOf r ≡ surveyRefusal s ⌝ }
+fn judge(s: Survey, tally: &[usize]) -> Checked
+    requires { ⌜ length (now tally) ≡ tallySize ⌝ }
+    ensures { λ r. ⌜ refusalOf r ≡ surveyRefusal s (now (tally .entry)) ⌝ }
 {
-    let k = survey::refusal_of(s);
+    let k = survey::refusal_of(s, tally);
     if k == 3 {
         return Checked::Refused(Refusal::BLine);
     }
@@ -40,35 +43,40 @@ fn judge(s: Survey) -> Checked
 }
 
 // Question 6, of lines that passed 2 to 5. Where it passes, the records are indexed.
-fn compare(s: Survey, index: &mut [u16]) -> Loaded
+fn compare(index: &mut [u16], tally: &[usize]) -> Loaded
     requires { ⌜ recordsEnd ≤ length (now index) ⌝ }
-    requires { ⌜ surveyRefusal s ≡ 0 ⌝ }
-    ensures { λ r. ⌜ ((form : Form) (lines : List (List ℤ)) (index₀ : List ℕ) → WholeAs form lines index₀ (now (index .entry)) s → Answered (linesRefusal form lines) (bookOfLines lines) (now (index .exit)) r) ⌝ }
+    requires { ⌜ length (now tally) ≡ tallySize ⌝ }
+    requires { ⌜ areAllFew (now tally) ≡ true ⌝ }
+    ensures { λ r. ⌜ ((form : Form) (lines : List (List ℤ)) (index₀ : List ℕ) (s : Survey) → WholeAs form lines index₀ (now (index .entry)) (now (tally .entry)) s → surveyRefusal s (now (tally .entry)) ≡ 0 → Answered (linesRefusal form lines) (bookOfLines lines) (now (index .exit)) r) ⌝ }
 {
-    if ngrams::all_different(index, s.ts) {
-        return Loaded::Book(s);
+    let triples = tally[3];
+    if ngrams::all_different(index, triples) {
+        return Loaded::Book(triples);
     }
     Loaded::Refused(Refusal::RepeatedTriple)
 }
 
 // Questions 3 to 6, of lines that passed 2.
-pub fn settle_whole(s: Survey, index: &mut [u16]) -> Loaded
+pub fn settle_whole(s: Survey, index: &mut [u16], tally: &[usize]) -> Loaded
     requires { ⌜ recordsEnd ≤ length (now index) ⌝ }
-    ensures { λ r. ⌜ ((form : Form) (lines : List (List ℤ)) (index₀ : List ℕ) → WholeAs form lines index₀ (now (index .entry)) s → Answered (linesRefusal form lines) (bookOfLines lines) (now (index .exit)) r) ⌝ }
+    requires { ⌜ length (now tally) ≡ tallySize ⌝ }
+    ensures { λ r. ⌜ ((form : Form) (lines : List (List ℤ)) (index₀ : List ℕ) → WholeAs form lines index₀ (now (index .entry)) (now (tally .entry)) s → Answered (linesRefusal form lines) (bookOfLines lines) (now (index .exit)) r) ⌝ }
 {
-    match judge(s) {
-        Checked::Passed => compare(s, index),
+    match judge(s, tally) {
+        Checked::Passed => compare(index, tally),
         Checked::Refused(refusal) => Loaded::Refused(refusal),
     }
 }
 
-// Questions 2 to 6, of lines that were surveyed, their records in `index`. Where they pass, the records are indexed.
-pub fn settle(surveyed: Surveyed, index: &mut [u16]) -> Loaded
+// Questions 2 to 6, of lines that were surveyed, their records in `index` and how many there are of each kind in the tally.
+// Where they pass, the records are indexed.
+pub fn settle(surveyed: Surveyed, index: &mut [u16], tally: &[usize]) -> Loaded
     requires { ⌜ recordsEnd ≤ length (now index) ⌝ }
-    ensures { λ r. ⌜ ((form : Form) (lines : List (List ℤ)) (index₀ : List ℕ) → SurveyIs form lines index₀ (now (index .entry)) surveyed → Answered (linesRefusal form lines) (bookOfLines lines) (now (index .exit)) r) ⌝ }
+    requires { ⌜ length (now tally) ≡ tallySize ⌝ }
+    ensures { λ r. ⌜ ((form : Form) (lines : List (List ℤ)) (index₀ : List ℕ) → SurveyIs form lines index₀ (now (index .entry)) (now (tally .entry)) surveyed → Answered (linesRefusal form lines) (bookOfLines lines) (now (index .exit)) r) ⌝ }
 {
     match surveyed {
-        Surveyed::Whole(s) => settle_whole(s, index),
+        Surveyed::Whole(s) => settle_whole(s, index, tally),
         Surveyed::Broken => Loaded::Refused(Refusal::LineFields),
     }
 }
@@ -79,6 +87,7 @@ pub fn load(book: &[i32], index: &mut [u16]) -> Loaded
     requires { ⌜ recordsEnd ≤ length (now index) ⌝ }
     ensures { λ r. ⌜ Answered (bookRefusal (now (book .entry))) (bookOf (now (book .entry))) (now (index .exit)) r ⌝ }
 {
-    let surveyed = loaded::survey_loaded(book, index);
-    settle(surveyed, index)
+    let mut tally = [0usize; survey::TALLY_SIZE];
+    let surveyed = loaded::survey_loaded(book, index, &mut tally);
+    settle(surveyed, index, &tally)
 }

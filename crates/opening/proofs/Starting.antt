@@ -19,7 +19,6 @@ use Rattle.laws.specs.Lists.{noneTwice}
 use Rattle.ngrams.specs.Grams.{triplesIn, sameKey, Indexed}
 use Rattle.ngrams.proofs.Index.{below-indexed}
 use Rattle.ngrams.proofs.Differ.{below-keys, below-triples}
-use Rattle.book.specs.declared.survey.Survey.{Survey}
 use Rattle.book.specs.Loaded.{sizeAt}
 use Rattle.book.specs.Entries.{EntriesAt, Placed}
 use Rattle.book.proofs.Cuts.{LineAt, line-here, line-number, lines-end}
@@ -127,14 +126,14 @@ module _ {loaded : List ℤ} {index : List ℕ} {counts : Counts} {t : Setup} (d
 -- ════ the book is open
 
 -- the places of the entries were put behind what loading left
-pub opened : {loaded : List ℤ} {before after : List ℕ} {s : Survey} {phrases : ℕ} → Known (bookRefusal loaded) (bookOf loaded) before s → Placed loaded before after phrases
-    → Open loaded after (record { phrases = phrases; triples = s .ts })
-opened {s} r p =
+pub opened : {loaded : List ℤ} {before after : List ℕ} {triples phrases : ℕ} → Known (bookRefusal loaded) (bookOf loaded) before triples → Placed loaded before after phrases
+    → Open loaded after (record { phrases = phrases; triples = triples })
+opened {triples} r p =
     let few = r .indexed .room .few in
     record {
       passed = r .passes;
-      triples-are = below-triples (p .kept) (s .ts) few ∙ r .triples-are;
-      different = ap (noneTwice sameKey) (below-keys (p .kept) (s .ts) few) ∙ r .different;
+      triples-are = below-triples (p .kept) triples few ∙ r .triples-are;
+      different = ap (noneTwice sameKey) (below-keys (p .kept) triples few) ∙ r .different;
       indexed = below-indexed (p .kept) (r .indexed);
       entries-at = p .entries;
     }

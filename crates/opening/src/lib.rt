@@ -38,8 +38,7 @@ pub fn open_book(book: &[i32], index: &mut [u16]) -> Opened
     ensures { λ r. ⌜ OpenedAs (now (book .entry)) (now (index .exit)) r ⌝ }
 {
     match load::load(book, index) {
-        Loaded::Book(s) => {
-            let triples = s.ts;
+        Loaded::Book(triples) => {
             let phrases = entries::find_entries(book, index);
             Opened::Book(Counts { phrases, triples })
         }

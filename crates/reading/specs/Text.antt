@@ -20,18 +20,18 @@ use Rattle.loading.specs.Loaded.{WholeAs}
 abbrev pub textRefusal : List ℕ → ℕ
 textRefusal text = 1 unless isBookText text orelse linesRefusal InText (textLines text)
 
--- it is a book's text, its lines are whole and s is their survey, and it has `count` numbers
-pub record WholeText (text : List ℕ) (index₀ index₁ : List ℕ) (s : Survey) (count : ℕ) : Type 0 where
+-- it is a book's text, its lines are whole, s is their survey and `tally` their tally, and it has `count` numbers
+pub record WholeText (text : List ℕ) (index₀ index₁ tally : List ℕ) (s : Survey) (count : ℕ) : Type 0 where
   pub formed : isBookText text ≡ true
-  pub lines : WholeAs InText (textLines text) index₀ index₁ s
+  pub lines : WholeAs InText (textLines text) index₀ index₁ tally s
   pub counted : count ≡ length (loadedOf text)
 
 -- questions 1 and 2 of a text; where both pass, its survey
-abbrev pub TextSurveyIs : List ℕ → List ℕ → List ℕ → TextSurvey → Type 0
-TextSurveyIs text index₀ index₁ (Whole s count) = WholeText text index₀ index₁ s count
-TextSurveyIs text index₀ index₁ Broken = isBookText text ≡ true → all (isWhole InText) (textLines text) ≡ false
+abbrev pub TextSurveyIs : List ℕ → List ℕ → List ℕ → List ℕ → TextSurvey → Type 0
+TextSurveyIs text index₀ index₁ tally (Whole s count) = WholeText text index₀ index₁ tally s count
+TextSurveyIs text index₀ index₁ tally Broken = isBookText text ≡ true → all (isWhole InText) (textLines text) ≡ false
 
 -- the answer with the count of the numbers, without what a search needs
 abbrev pub countedAs : Loaded → ℕ → Read
-countedAs (Passes s) count = Numbers count
+countedAs (Passes triples) count = Numbers count
 countedAs (Refused refusal) count = ReadRefused refusal

@@ -15,6 +15,7 @@ ghost use Rattle.meaning.specs.Questions.{number};
 ghost use Rattle.meaning.specs.Book.{InText, isBookText, isWhole, textLines, loadedOf};
 ghost use Rattle.meaning.specs.Reply.{readReply, reply, readBook, readBookList};
 ghost use Rattle.ngrams.specs.Parts.{recordsEnd};
+ghost use Rattle.book.specs.Survey.{noTally};
 ghost use Rattle.reading.specs.Text.{TextSurveyIs, textRefusal, countedAs};
 
 // What is known of the lines of a text that are all good and whole, and how many numbers they have; or that one is not.
@@ -23,11 +24,13 @@ enum TextSurvey {
     Broken,
 }
 
-// Surveys a text, whatever it is; `index` gets the records of its T lines. Where a line is not good, or not whole, what `index`
-// holds afterwards is not said. No whole line has more than 20 numbers.
-fn survey_text(text: &[u8], index: &mut [u16]) -> TextSurvey
+// Surveys a text, whatever it is; `index` gets the records of its T lines, and the tally, all zero before, how many lines there
+// are of each kind. Where a line is not good, or not whole, what the two hold afterwards is not said. No whole line has more
+// than 20 numbers.
+fn survey_text(text: &[u8], index: &mut [u16], tally: &mut [usize]) -> TextSurvey
     requires { ⌜ recordsEnd ≤ length (now index) ⌝ }
-    ensures { λ r. ⌜ TextSurveyIs (now (text .entry)) (now (index .entry)) (now (index .exit)) r ⌝ }
+    requires { ⌜ now tally ≡ noTally ⌝ }
+    ensures { λ r. ⌜ TextSurveyIs (now (text .entry)) (now (index .entry)) (now (index .exit)) (now (tally .exit)) r ⌝ }
 {
     if text.len() == 0 {
         return TextSurvey::Broken;
@@ -48,7 +51,7 @@ fn survey_text(text: &[u8], index: &mut [u16]) -> TextSurvey
         if !lines::is_whole(&row[..n]) {
             return TextSurvey::Broken;
         }
-        acc = grams::note_line(acc, index, &row[..n]);
+        acc = grams::note_line(acc, index, tally, &row[..n]);
         count += n;
         at = read.end;
     }
@@ -81,11 +84,12 @@ fn check_text(text: &[u8]) -> Read
     ensures { λ r. ⌜ readReply r ≡ reply (textRefusal (now (text .entry))) (length (loadedOf (now (text .entry)))) ⌝ }
 {
     let mut index = [0u16; ngrams::RECORDS_END];
-    let surveyed = survey_text(text, &mut index);
+    let mut tally = [0usize; survey::TALLY_SIZE];
+    let surveyed = survey_text(text, &mut index, &mut tally);
     let TextSurvey::Whole { survey, count } = surveyed else {
         return Read::Refused(refusal_of(text));
     };
-    let loaded = load::settle_whole(survey, &mut index);
+    let loaded = load::settle_whole(survey, &mut index, &tally);
     counted(loaded, count)
 }
 

@@ -19,10 +19,10 @@ use Rattle.reading.proofs.survey_text.Statement.{statement}
 use Rattle.reading.proofs.survey_text.Tie as tie
 
 abbrev Inv-loop : tie.InvT-loop
-Inv-loop text index₀ row₀ acc₀ count₀ at₀ index row acc count at = Walked text index₀ acc index row count at
+Inv-loop text index₀ tally₀ row₀ acc₀ count₀ at₀ index tally row acc count at = Walked text index₀ acc tally index row count at
 
 abbrev μ-loop : tie.MeasureT-loop
-μ-loop text index₀ row₀ acc₀ count₀ at₀ index row acc count at = length text - at
+μ-loop text index₀ tally₀ row₀ acc₀ count₀ at₀ index tally row acc count at = length text - at
 
 -- the line at `at` is good
 good : (c : tie.Else2 Inv-loop μ-loop) → c .before .before .before .read-row .result .good ≡ true
@@ -30,7 +30,7 @@ good c = not-false _ (c .if2 .left)
 
 -- its numbers
 abbrev here : tie.Else2 Inv-loop μ-loop → List ℤ
-here c = numbersAt (c .before .before .before .before .before .before .before .before .before .before .before .args .text .now) (c .before .before .before .before .before .before .loop .at)
+here c = numbersAt (c .before .before .before .before .before .before .before .before .before .before .before .before .args .text .now) (c .before .before .before .before .before .before .loop .at)
 
 -- what the row holds of them
 row-is : (c : tie.Else3 Inv-loop μ-loop) → take (c .before .before .before .before .read-row .result .count) (c .before .before .before .before .read-row .last .1 .1 .0) ≡ here (c .before)
@@ -41,13 +41,13 @@ row-is c =
     ∙ filled-take (here (c .before)) (c .before .before .before .before .before .before .before .loop .row) (k .result .count) (k .ensures .counted g) (omega (arith, c .if3 .left, c .before .before .before .before .before .before .before .loop .inv .places))
 
 returns : tie.Need-returns Inv-loop μ-loop
-returns c = λ t. clash t (sym (no-book (c .before .before .before .args .text .now) (c .if1 .taken)))
+returns c = λ t. clash t (sym (no-book (c .before .before .before .before .args .text .now) (c .if1 .taken)))
 
 fresh-requires : tie.Need-fresh-requires Inv-loop μ-loop
 fresh-requires c κs = tt
 
 loop-holds : tie.Need-loop-holds Inv-loop μ-loop
-loop-holds c = rw (c .fresh .ensures) (walk-start (c .before .before .before .before .args .text .now) (c .before .before .before .before .args .index .now) _ refl)
+loop-holds c = rw (c .fresh .ensures, c .before .before .before .before .before .pre .1) (walk-start (c .before .before .before .before .before .args .text .now) (c .before .before .before .before .before .args .index .now) _ refl)
 
 slice-aggregate-read-row : tie.Need-slice-aggregate-read-row Inv-loop μ-loop
 slice-aggregate-read-row c = sym (c .before .before .loop .inv .places)
@@ -58,11 +58,17 @@ read-row-requires c κs = c .before .loop-test .taken
 same-length : tie.Need-same-length Inv-loop μ-loop
 same-length c = c .before .before .before .before .before .before .loop .inv .long
 
+same-length-2 : tie.Need-same-length-2 Inv-loop μ-loop
+same-length-2 c = c .before .before .before .before .before .before .loop .inv .few .each-kind ∙ sym (ap length (c .before .before .before .before .before .before .before .before .before .before .before .before .pre .1))
+
 returns-2 : tie.Need-returns-2 Inv-loop μ-loop
 returns-2 c = let k = c .before .before .before .read-row in walk-bad (c .before .before .before .before .before .before .loop .inv) (k .result) (k .ensures) (not-true _ (c .if2 .taken))
 
-same-length-2 : tie.Need-same-length-2 Inv-loop μ-loop
-same-length-2 c = c .before .before .before .before .before .before .before .loop .inv .long
+same-length-3 : tie.Need-same-length-3 Inv-loop μ-loop
+same-length-3 c = c .before .before .before .before .before .before .before .loop .inv .long
+
+same-length-4 : tie.Need-same-length-4 Inv-loop μ-loop
+same-length-4 c = c .before .before .before .before .before .before .before .loop .inv .few .each-kind ∙ sym (ap length (c .before .before .before .before .before .before .before .before .before .before .before .before .before .pre .1))
 
 returns-3 : tie.Need-returns-3 Inv-loop μ-loop
 returns-3 c =
@@ -79,8 +85,11 @@ slice-aggregate-is-whole c = sym (length-take-le _ _ (omega (arith, c .before .b
 is-whole-requires : tie.Need-is-whole-requires Inv-loop μ-loop
 is-whole-requires c κs = tt
 
-same-length-3 : tie.Need-same-length-3 Inv-loop μ-loop
-same-length-3 c = c .before .before .before .before .before .before .before .before .before .before .loop .inv .long
+same-length-5 : tie.Need-same-length-5 Inv-loop μ-loop
+same-length-5 c = c .before .before .before .before .before .before .before .before .before .before .loop .inv .long
+
+same-length-6 : tie.Need-same-length-6 Inv-loop μ-loop
+same-length-6 c = c .before .before .before .before .before .before .before .before .before .before .loop .inv .few .each-kind ∙ sym (ap length (c .before .before .before .before .before .before .before .before .before .before .before .before .before .before .before .before .pre .1))
 
 returns-4 : tie.Need-returns-4 Inv-loop μ-loop
 returns-4 c =
@@ -89,14 +98,14 @@ returns-4 c =
     (sym (ap (isWhole InText) (row-is (c .before .before .before))) ∙ sym (c .before .is-whole .ensures) ∙ not-true _ (c .if4 .taken))
 
 array-share-prefix-row-2 : tie.Need-array-share-prefix-row-2 Inv-loop μ-loop
-array-share-prefix-row-2 c = omega (arith, c .before .before .before .before .before .before .before .before .read-row .ensures .same, c .before .before .before .before .before .before .before .before .before .before .before .loop .inv .places, c .before .before .before .before .if3 .left)
+array-share-prefix-row-2 c = omega (arith, c .before .before .before .before .before .before .before .before .before .read-row .ensures .same, c .before .before .before .before .before .before .before .before .before .before .before .before .loop .inv .places, c .before .before .before .before .before .if3 .left)
 
 slice-aggregate-note-line : tie.Need-slice-aggregate-note-line Inv-loop μ-loop
-slice-aggregate-note-line c = sym (length-take-le _ _ (omega (arith, c .before .before .before .before .before .before .before .before .before .read-row .ensures .same, c .before .before .before .before .before .before .before .before .before .before .before .before .loop .inv .places, c .before .before .before .before .before .if3 .left)))
+slice-aggregate-note-line c = sym (length-take-le _ _ (omega (arith, c .before .before .before .before .before .before .before .before .before .before .read-row .ensures .same, c .before .before .before .before .before .before .before .before .before .before .before .before .before .loop .inv .places, c .before .before .before .before .before .before .if3 .left)))
 
 note-line-requires : tie.Need-note-line-requires Inv-loop μ-loop
 note-line-requires c κs =
-    let w = c .before .before .before .before .before .before .before .before .before .before .before .before .loop .inv in
+    let w = c .before .before .before .before .before .before .before .before .before .before .before .before .before .loop .inv in
     let h = w .long in
     (few-more (w .few) (omega (arith, w .within)), omega arith)
 
@@ -106,25 +115,28 @@ whole c = sym (ap (isWhole InText) (row-is (c .before .before .before))) ∙ sym
 
 add-count : tie.Need-add-count Inv-loop μ-loop
 add-count c =
-    let k = c .before .before .before .before .before .before .before .before .before .before .before .before .read-row in
-    let n = walk-next (c .before .before .before .before .before .before .before .before .before .before .before .before .before .before .before .loop .inv) (k .result) (k .ensures) (c .before .before .before .before .before .before .before .before .before .before .before .before .before .before .loop-test .taken) (good (c .before .before .before .before .before .before .before .before .before)) (whole (c .before .before .before .before .before)) in
+    let k = c .before .before .before .before .before .before .before .before .before .before .before .before .before .before .before .read-row in
+    let n = walk-next (c .before .before .before .before .before .before .before .before .before .before .before .before .before .before .before .before .before .before .loop .inv) (k .result) (k .ensures) (c .before .before .before .before .before .before .before .before .before .before .before .before .before .before .before .before .before .loop-test .taken) (good (c .before .before .before .before .before .before .before .before .before .before .before .before)) (whole (c .before .before .before .before .before .before .before .before)) in
     omega (arith, n .short, n .within)
 
 loop-less : tie.Need-loop-less Inv-loop μ-loop
 loop-less c =
-    let k = c .before .before .before .before .before .before .before .before .before .before .before .before .read-row in
-    let g = good (c .before .before .before .before .before .before .before .before .before) in
-    omega (arith, row-later (k .ensures) g (whole (c .before .before .before .before .before)), k .ensures .within g, c .before .before .before .before .before .before .before .before .before .before .before .before .before .before .loop-test .taken)
+    let k = c .before .before .before .before .before .before .before .before .before .before .before .before .before .before .before .read-row in
+    let g = good (c .before .before .before .before .before .before .before .before .before .before .before .before) in
+    omega (arith, row-later (k .ensures) g (whole (c .before .before .before .before .before .before .before .before)), k .ensures .within g, c .before .before .before .before .before .before .before .before .before .before .before .before .before .before .before .before .before .loop-test .taken)
 
 loop-again : tie.Need-loop-again Inv-loop μ-loop
 loop-again c =
-    let said = c .before .before .note-line .ensures in
-    let k = c .before .before .before .before .before .before .before .before .before .before .before .before .read-row in
-    rw (said .0, said .1, row-is (c .before .before .before .before .before .before .before .before))
-    (walk-next (c .before .before .before .before .before .before .before .before .before .before .before .before .before .before .before .loop .inv) (k .result) (k .ensures) (c .before .before .before .before .before .before .before .before .before .before .before .before .before .before .loop-test .taken) (good (c .before .before .before .before .before .before .before .before .before)) (whole (c .before .before .before .before .before)))
+    let said = c .before .before .before .before .note-line .ensures in
+    let k = c .before .before .before .before .before .before .before .before .before .before .before .before .before .before .before .read-row in
+    rw (said .0, said .1 .0, said .1 .1, row-is (c .before .before .before .before .before .before .before .before .before .before .before))
+    (walk-next (c .before .before .before .before .before .before .before .before .before .before .before .before .before .before .before .before .before .before .loop .inv) (k .result) (k .ensures) (c .before .before .before .before .before .before .before .before .before .before .before .before .before .before .before .before .before .loop-test .taken) (good (c .before .before .before .before .before .before .before .before .before .before .before .before)) (whole (c .before .before .before .before .before .before .before .before)))
 
-same-length-4 : tie.Need-same-length-4 Inv-loop μ-loop
-same-length-4 c = c .before .loop .inv .long
+same-length-7 : tie.Need-same-length-7 Inv-loop μ-loop
+same-length-7 c = c .before .loop .inv .long
+
+same-length-8 : tie.Need-same-length-8 Inv-loop μ-loop
+same-length-8 c = c .before .loop .inv .few .each-kind ∙ sym (ap length (c .before .before .before .before .before .before .before .pre .1))
 
 returns-5 : tie.Need-returns-5 Inv-loop μ-loop
 returns-5 c = walk-end (c .before .loop .inv) (c .loop-test .left) (c .before .before .before .if1 .left)
@@ -141,13 +153,16 @@ survey-text-spec =
     slice-aggregate-read-row
     read-row-requires
     same-length
-    returns-2
     same-length-2
+    returns-2
+    same-length-3
+    same-length-4
     returns-3
     array-share-prefix-row
     slice-aggregate-is-whole
     is-whole-requires
-    same-length-3
+    same-length-5
+    same-length-6
     returns-4
     array-share-prefix-row-2
     slice-aggregate-note-line
@@ -155,5 +170,6 @@ survey-text-spec =
     add-count
     loop-less
     loop-again
-    same-length-4
+    same-length-7
+    same-length-8
     returns-5)

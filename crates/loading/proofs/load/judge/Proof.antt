@@ -17,7 +17,7 @@ returns-3 : tie.Need-returns-3
 returns-3 c = search needs
 
 returns-4 : tie.Need-returns-4
-returns-4 c = judged-none (c .before .before .before .before .args .s) (c .before .before .before .refusal-of .result) (c .before .before .before .refusal-of .ensures) (c .before .before .if1 .left) (c .before .if2 .left) (c .if3 .left)
+returns-4 c = judged-none (c .before .before .before .before .before .args .s) (c .before .before .before .before .before .args .tally .now) (c .before .before .before .refusal-of .result) (c .before .before .before .refusal-of .ensures) (c .before .before .if1 .left) (c .before .if2 .left) (c .if3 .left)
 
 pub judge-spec : {M : Type 1} → statement M
 judge-spec = tie.close (tie.spec refusal-of-requires returns returns-2 returns-3 returns-4)

@@ -5,8 +5,14 @@ use borrow.Author.Needs.{needs}
 use Rattle.loading.proofs.load.load.Statement.{statement}
 use Rattle.loading.proofs.load.load.Tie as tie
 
+slice-aggregate-survey-loaded : tie.Need-slice-aggregate-survey-loaded
+slice-aggregate-survey-loaded c = search needs
+
 survey-loaded-requires : tie.Need-survey-loaded-requires
 survey-loaded-requires c κs = search needs
+
+slice-aggregate-settle : tie.Need-slice-aggregate-settle
+slice-aggregate-settle c = search needs
 
 settle-requires : tie.Need-settle-requires
 settle-requires c κs = search needs
@@ -17,9 +23,9 @@ same-length c = search needs
 returns : tie.Need-returns
 unfolding bookRefusal bookOf
 returns c =
-    let a = c .before .before .before .before .before .before .before .before .before .args in
-    let k = c .before .before .before .before .before .before .survey-loaded in
-    c .before .before .settle .ensures InList (loadedLines (a .book .now)) (a .index .now) (survey-loaded (a .book .now) (a .index .now) _ (k .result) (k .ensures))
+    let a = c .before .before .before .before .before .before .before .before .before .before .before .before .args in
+    let k = c .before .before .before .before .before .before .before .before .survey-loaded in
+    c .before .before .settle .ensures InList (loadedLines (a .book .now)) (a .index .now) (survey-loaded (a .book .now) (a .index .now) _ _ (k .result) (k .ensures))
 
 pub load-spec : {M : Type 1} → statement M
-load-spec = tie.close (tie.spec survey-loaded-requires settle-requires same-length returns)
+load-spec = tie.close (tie.spec slice-aggregate-survey-loaded survey-loaded-requires slice-aggregate-settle settle-requires same-length returns)

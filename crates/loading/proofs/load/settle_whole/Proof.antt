@@ -1,6 +1,6 @@
 -- What questions 3 to 5 answer is the lines' refusal, and where they pass, what question 6 answers.
 use mathlib.Core.Path.{sym, ap, _∙_}
-use Rattle.loading.proofs.Answers.{judged-so}
+use Rattle.loading.proofs.Answers.{judged-few, judged-so}
 use Rattle.loading.specs.Loaded.{refusalOf}
 use borrow.Author.Needs.{needs}
 use Rattle.loading.proofs.load.settle_whole.Statement.{statement}
@@ -13,7 +13,9 @@ enum-told : tie.Need-enum-told
 enum-told c = search needs
 
 compare-requires : tie.Need-compare-requires
-compare-requires c κs = (c .before .before .before .before .before .pre, sym (c .before .before .before .judge .ensures) ∙ ap refusalOf (c .before .enum-told .given .1))
+compare-requires c κs =
+    let four = sym (c .before .before .before .judge .ensures) ∙ ap refusalOf (c .before .enum-told .given .1) in
+    (c .before .before .before .before .before .before .pre .0, (c .before .before .before .before .before .before .pre .1, judged-few (c .before .before .before .before .before .before .args .s) (c .before .before .before .before .before .before .args .tally .now) four))
 
 enum-known-refusal : tie.Need-enum-known-refusal
 enum-known-refusal c = search needs
@@ -22,7 +24,7 @@ same-length : tie.Need-same-length
 same-length c = search needs
 
 returns : tie.Need-returns
-returns c = search needs
+returns c = λ form lines index₀ w. c .before .before .compare .ensures form lines index₀ (c .before .before .before .before .before .before .before .before .before .args .s) w (sym (c .before .before .before .before .before .before .judge .ensures) ∙ ap refusalOf (c .before .before .before .before .enum-told .given .1))
 
 returns-2 : tie.Need-returns-2
 returns-2 c = λ form lines index₀ w. judged-so w (c .before .refusal .given .0 .0) (sym (ap refusalOf (c .before .refusal .given .1)) ∙ c .before .before .before .judge .ensures)
