@@ -20,7 +20,7 @@ pub const TRIPLES_MOST: usize = 8192;
 // How many kinds there are, and how many lines of each a book may have, by the kind's number; there is no kind 0.
 pub const KINDS: usize = 3;
 
-const MOST: [usize; 4] = [0, 1, PHRASES_MOST, TRIPLES_MOST];
+const MOST: [usize; KINDS + 1] = [0, 1, PHRASES_MOST, TRIPLES_MOST];
 
 // The numbers from 0, the start symbol, to the last word.
 pub const WORD_SPAN: usize = 65536;
