@@ -67,7 +67,7 @@ surveyRefusal s tally =
     orelse 4 unless s .ranged
     orelse 5 unless areAllFew tally
 
--- a tally with a number for each kind, and none; and no count passes n
+-- no count passes n, and the tally has a number for each row and one for no kind
 pub record Few (s : Survey) (tally : List ℕ) (n : ℕ) : Type 0 where
   pub few-lines : s .lines ≤ n
   pub few-each : (k : ℕ) → getD tally k 0 ≤ n

@@ -1,5 +1,6 @@
 -- The records in the list are those of the lines, and question 5 has passed, so there is room for their index; their comparison answers question 6.
 use mathlib.Core.Path.{sym, _∙_}
+use native.Mathlib.Omega.{arith}
 use Rattle.loading.proofs.Answers.{few-triples, repeated-so, different-so}
 use borrow.Author.Needs.{needs}
 use Rattle.loading.proofs.load.compare.Statement.{statement}
@@ -9,7 +10,7 @@ shared-slice-read-triples : tie.Need-shared-slice-read-triples
 shared-slice-read-triples c = search needs
 
 all-different-requires : tie.Need-all-different-requires
-all-different-requires c κs = record { parts = c .before .before .before .before .pre .0; few = few-triples (c .before .before .before .before .args .tally .now) (c .before .before .before .before .pre .1 .1) }
+all-different-requires c κs = record { parts = c .before .before .before .before .pre .0; few = omega (arith, few-triples (c .before .before .before .before .args .tally .now) (c .before .before .before .before .pre .1 .1)) }
 
 same-length : tie.Need-same-length
 same-length c = search needs
