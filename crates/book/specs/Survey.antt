@@ -58,6 +58,10 @@ isFew tally k = leb (getD tally k 0) (mostOf k)
 abbrev pub areAllFew : List ℕ → Bool
 areAllFew tally = all (isFew tally) (numbersFrom 2 (length kinds - 1))
 
+-- how many lines there may be before a count could pass its type: 2 ^ 62
+abbrev pub linesMost : ℕ
+linesMost = 4_611_686_018_427_387_904
+
 -- ════ the questions
 
 -- the first of questions 3 to 5 that the lines do not pass, or 0

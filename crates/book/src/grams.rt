@@ -5,7 +5,7 @@ ghost use mathlib.Core.Path.{_≡_};
 ghost use Prim.Native.Nat.{_≤_};
 ghost use lib.ListN.{length, getD};
 ghost use Rattle.ngrams.specs.Parts.{recordsEnd};
-ghost use Rattle.book.specs.Survey.{withLine, withKind, Few};
+ghost use Rattle.book.specs.Survey.{withLine, withKind, linesMost, Few};
 ghost use Rattle.book.specs.Grams.{withGram};
 
 // A T line, put as the record behind those of the `ts` T lines before it. A line of another kind, or a T line for which the
@@ -25,7 +25,7 @@ fn put_gram(index: &mut [u16], ts: usize, line: &[i32])
 
 // One line more, of a text or of a loaded list: what it adds to the survey and to the tally, and its record where it is a T line.
 pub fn note_line(acc: Survey, index: &mut [u16], tally: &mut [usize], line: &[i32]) -> Survey
-    requires { ⌜ Few acc (now tally) 4611686018427387904 ⌝ }
+    requires { ⌜ Few acc (now tally) linesMost ⌝ }
     requires { ⌜ recordsEnd ≤ length (now index) ⌝ }
     ensures { λ r. ⌜ r ≡ withLine acc (now (line .entry)) ⌝ }
     ensures { λ r. ⌜ now (tally .exit) ≡ withKind (now (tally .entry)) (now (line .entry)) ⌝ }

@@ -6,7 +6,7 @@ ghost use mathlib.Core.Bool.{_&&_, cond};
 ghost use Prim.Native.Nat.{ℕ, _≤_};
 ghost use lib.Dec.{eqb};
 ghost use lib.ListN.{length, getD};
-ghost use Rattle.book.specs.Survey.{fresh, withLine, tallySize, withKind, areAllFew, surveyRefusal};
+ghost use Rattle.book.specs.Survey.{fresh, withLine, tallySize, withKind, areAllFew, linesMost, surveyRefusal};
 
 // How long the tally is.
 pub const TALLY_SIZE: usize = lines::KINDS + 1;
@@ -44,9 +44,9 @@ fn of_first(lines: usize, here: bool, before: bool) -> bool
     if lines == 0 { here } else { before }
 }
 
-// One line more, of which there may be 2 ^ 62 before a count could pass its type.
+// One line more.
 pub fn with_line(acc: Survey, line: &[i32]) -> Survey
-    requires { ⌜ acc .lines ≤ 4611686018427387904 ⌝ }
+    requires { ⌜ acc .lines ≤ linesMost ⌝ }
     ensures { λ r. ⌜ r ≡ withLine acc (now (line .entry)) ⌝ }
 {
     let b = lines::is_kind(line, 1);
@@ -61,7 +61,7 @@ pub fn with_line(acc: Survey, line: &[i32]) -> Survey
 // One line more in the tally.
 pub fn count_line(tally: &mut [usize], line: &[i32])
     requires { ⌜ length (now tally) ≡ tallySize ⌝ }
-    requires { ⌜ ((k : ℕ) → getD (now tally) k 0 ≤ 4611686018427387904) ⌝ }
+    requires { ⌜ ((k : ℕ) → getD (now tally) k 0 ≤ linesMost) ⌝ }
     ensures { λ _. ⌜ now (tally .exit) ≡ withKind (now (tally .entry)) (now (line .entry)) ⌝ }
 {
     let k = lines::kind_of(line);
