@@ -45,6 +45,8 @@ int32_t phrase_score(const int32_t *book, size_t book_len, const uint16_t *direc
 /* Finds the best derivation. `width` is -1 (pruning off) or the beam's width. Returns 0, or the refusal: 2 to 6, 9 to 15.
  * On success the steps stand at the front of `steps`, their target words at the front of `words`, and the places behind them are as before;
  * report: the score, the number of steps, of words, and of states entered.
+ * Of derivations with equal scores the first in order wins, compared step by step by first, then last, then entry: the book, the direction and the
+ * width alone decide the steps and the words.
  * After a refusal `steps` and `words` are as before. After 13, 14, 15 and after success every number of `store` is 0; after another refusal it is as
  * before. `steps` needs 3 numbers, and `words` 8, for each word of the direction. */
 int32_t phrase_decode(const int32_t *book, size_t book_len, const uint16_t *direction, size_t direction_len, int64_t width,

@@ -62,6 +62,17 @@ impl Lent {
             &mut self.report,
         )
     }
+    /// The answer that a decode left in the lists.
+    fn answer(&self) -> second::Answer {
+        let [score, steps, words, states] = self.report;
+        let steps = self.steps.chunks(3).take(steps as usize);
+        second::Answer {
+            score,
+            states: states as usize,
+            steps: steps.map(|s| (s[0], s[1], s[2])).collect(),
+            words: self.words[..words as usize].to_vec(),
+        }
+    }
 }
 
 /// A book, a direction and a width, decoded by both; the store has a tenth more places than states are entered.
@@ -87,8 +98,7 @@ fn decode(name: &str, book: &[i32], direction: &[u16], width: i64) {
         || assert_eq!(lent.decode(book, direction, width), 0),
         || assert_eq!(search(places), expected),
     );
-    let report = lent.report;
-    assert_eq!((report[0], report[3]), (answer.score, states as i64));
+    assert_eq!(lent.answer(), *answer);
     let each = |t: Duration| t.as_nanos() as f64 / states as f64;
     println!(
         "{name:40} {states:8} {:9.3} {:9.3} {:9.0} {:9.0} {:7.2}",
@@ -160,6 +170,22 @@ fn decoding() {
     }
 }
 
+/// Every state that is met again has the score that it had: the steps decide each time.
+fn decoding_ties() {
+    println!("all scores equal, pruning off              states   ours ms  theirs ms   ours ns/state  theirs   ratio");
+    let mut rng = Rng::new(3);
+    for (n, d, per_word) in [(7, 2, 6), (8, 2, 8), (12, 2, 8)] {
+        let (full, direction) = gen::large_case(&mut rng, n, d, per_word);
+        let name = format!("full, {n} words, limit {d}");
+        decode(&name, &all_equal(full, false), &direction, -1);
+    }
+    for (n, d) in [(12, 4), (14, 4), (16, 3)] {
+        let (full, direction) = gen::large_case(&mut rng, n, d, 8);
+        let name = format!("one target word, {n} words, limit {d}");
+        decode(&name, &all_equal(full, true), &direction, -1);
+    }
+}
+
 fn said(width: i64) -> String {
     match width {
         -1 => "pruning off".into(),
@@ -167,16 +193,37 @@ fn said(width: i64) -> String {
     }
 }
 
+/// How many numbers the P or T line has that begins there.
+fn size(book: &[i32], at: usize) -> usize {
+    match book[at] {
+        2 => (book[at + 1] + book[at + 2] + 4) as usize,
+        _ => 5,
+    }
+}
+
 /// The B line and the first lines of a loaded book.
 fn small_part(book: &[i32], lines: usize) -> Vec<i32> {
     let mut end = 4;
     for _ in 1..lines {
-        end += match book[end] {
-            2 => (book[end + 1] + book[end + 2] + 4) as usize,
-            _ => 5,
-        };
+        end += size(book, end);
     }
     book[..end].to_vec()
+}
+
+/// The book with every score and eta 0; and, where wanted, with one word for all target words of its entries.
+fn all_equal(mut book: Vec<i32>, one_word: bool) -> Vec<i32> {
+    book[2..4].fill(0);
+    let mut at = 4;
+    while at < book.len() {
+        let end = at + size(&book, at);
+        if one_word && book[at] == 2 {
+            let target = at + 3 + book[at + 1] as usize;
+            book[target..end - 1].fill(1);
+        }
+        book[end - 1] = 0;
+        at = end;
+    }
+    book
 }
 
 /// A book's text with so many P lines of 8 + 8 words, and twice as many T lines.
@@ -242,6 +289,8 @@ fn reading() {
 
 fn main() {
     decoding();
+    println!();
+    decoding_ties();
     println!();
     reading();
 }

@@ -18,66 +18,22 @@ use Rattle.meaning.specs.Book.{Book, bookOf}
 use Rattle.meaning.specs.Derivation.{noStep, entryAt, targetWords}
 use Rattle.meaning.specs.Direction.{wordCount}
 use Rattle.meaning.specs.Reply.{writtenOver}
-use Rattle.meaning.specs.Search.{stepAt, fittingSteps}
 use Rattle.meaning.specs.State.{Hyp}
 use Rattle.meaning.specs.declared.Step.{Step}
-use Rattle.meaning.proofs.Steps.{fits-facts, listed-fits}
+use Rattle.meaning.proofs.Steps.{fits-facts}
 use Rattle.records.specs.Plain.{stepIn, stepsTo, stepsOf, unlessFull, withStep, Added}
 use Rattle.records.specs.declared.Plain.{Plain}
 use Rattle.records.proofs.Laws.{count-steps}
 use Rattle.derivation.specs.Model.{WordsAt, wordIn, PhraseOf}
 use Rattle.derivation.specs.declared.Phrase.{Phrase}
 use Rattle.derivation.specs.declared.Setup.{Setup}
-use Rattle.states.specs.Back.{Leads, Way}
-use Rattle.states.specs.Ghost.{optionAt}
-use Rattle.states.specs.Shows.{nobody}
+use Rattle.ways.specs.Back.{nobody, Leads, Way}
+use Rattle.ways.specs.Codes.{stepOf}
+use Rattle.book.specs.Entries.{EntriesAt}
 use Rattle.meaning.specs.declared.Decoded.the-variants.{Done}
 use Rattle.store.specs.Store.{placeAt}
 use Rattle.answer.specs.Told.{Ends, Told}
-use Rattle.extending.specs.Extend.{Choices}
 use Rattle.derivation.proofs.Rows.{word-is}
-use Rattle.options.specs.Options.{optionsFrom, startAt, optionIn}
-
--- ════ the position of an option
-
--- a position that begins no later than the option does not lie behind all options
-pub below-end : (options : List ℕ) (i n o : ℕ) → startAt options i ≤ o → o < startAt options n → i ≤ n → i < n
-below-end options i n o a b h = by (ℕ-discrete i n)
-  where
-    by : Dec (i ≡ n) → i < n
-    by (yes e) = let c : o < startAt options i = rw e b in absurd (omega arith)
-    by (no q) = omega arith
-
-module _ {loaded : List ℤ} {direction : List ℕ} {index : List ℕ} {options : List ℕ} {t : Setup} (C : Choices loaded direction index options t)
-    {o : ℕ} (ho : o < length (fittingSteps (bookOf loaded) direction)) where
-  pub option-to : o < startAt options (t .n)
-  option-to = let e = C .options-of .ends in let n = C .n-is in rw n (omega arith)
-
-  pub option-from : startAt options 0 ≤ o
-  option-from = let e = C .options-of .begins in omega arith
-
-  pub option-starts : (t .n ≤ 32) × (optionsFrom ≤ length options)
-  option-starts = let n = C .n-is in let f = C .few in let r = C .options-of .room in (omega arith, omega arith)
-
-  pub option-room : optionsFrom + o < length options
-  option-room = let e = C .options-of .ends in let r = C .options-of .room in omega arith
-
-  module _ {k : ℕ} (read : k ≡ optionIn options o) where
-    pub option-entry : (1 ≤ k) × (k ≤ t .phrases)
-    option-entry =
-        let e = C .options-of .ends in
-        let b = C .options-of .entries-in o (omega arith) in
-        let m = C .entries-at .counted in
-        let f = b .0 in
-        let l = b .1 in
-        (omega arith, omega arith)
-
-    module _ {i : ℕ} (h : i < t .n) (a : startAt options i ≤ o) (b : o < startAt options (i + 1)) {p : Phrase} (of : PhraseOf loaded (entryAt (bookOf loaded) k) p) where
-      is-step : optionAt (bookOf loaded) direction o ≡ stepAt (bookOf loaded) (i + 1) k
-      is-step = let n = C .n-is in C .options-of .each i o (omega arith) a b ∙ ap (stepAt (bookOf loaded) (i + 1)) (sym read)
-
-      pub option-step : record { first = i + 1; last = i + 1 + p .long - 1; entry = k } ≡ optionAt (bookOf loaded) direction o
-      option-step = let m = of .source-at .many-are in rw (m) (sym is-step)
 
 -- ════ the words of one entry
 
@@ -97,7 +53,7 @@ module _ {loaded : List ℤ} {from many : ℕ} {row : List ℕ} (w : WordsAt loa
       let g : Filled old out j [] row = subst (λ (rest : List ℕ). Filled old out j rest row) e f in
       fill-end g ∙ ap (λ (k : ℕ). row ++ drop k old) (fill-count g)
 
--- ════ the steps of a row of options
+-- ════ the steps of a row of numbers
 
 pub steps-more : (f : ℕ → Step) (way : List ℕ) {p r : Plain} {step : Step} {k : ℕ} → k < length way → k < 33 → p .count ≡ k → stepsOf p ≡ map f (take k way)
     → step ≡ f (getD way k 0) → Added p step r → (r .count ≡ k + 1) × (stepsOf r ≡ map f (take (k + 1) way))
@@ -137,7 +93,7 @@ module _ (book : Book) (plain : Plain) (k : ℕ) (old : List ℕ) where
       → take count words ++ (part ++ drop (length words - count) (drop count words)) ≡ writtenOver (targetWords book (stepsTo plain (k + 1))) old
   write-more w c e = over-more said row old w c e ∙ ap (λ (ws : List ℕ). writtenOver ws old) (sym next-words)
 
--- ════ the steps that the store's options stand for
+-- ════ the steps of the numbers that the store holds
 
 step-at : (p : Plain) (m i : ℕ) (d : Step) → i < m → getD (stepsTo p m) i d ≡ stepIn p i
 step-at p zero i d h = absurd (omega arith)
@@ -163,42 +119,45 @@ module _ {book : Book} {direction : List ℕ} {st : List ℤ} {k : ℕ} {q : Hyp
   steps-same : getD (E .list) k nobody .steps ≡ q .steps
   steps-same = ap (λ (x : Hyp). x .steps) (E .is)
 
-  pub ends-lead : wordCount direction ≤ 32 → Leads st k 32
-  ends-lead few =
+  pub ends-few : wordCount direction ≤ 32
+  ends-few = E .shown .fine .few
+
+  pub ends-lead : Leads st k 32
+  ends-lead =
       let s = E .short in
+      let f = ends-few in
       let e : length (getD (E .list) k nobody .steps) ≡ length (q .steps) = ap length steps-same in
-      record { step = optionAt book direction; options = length (fittingSteps book direction); list = E .list; chains = E .chains; inside = E .inside; short = omega arith }
+      record { list = E .list; chains = E .chains; inside = E .inside; short = omega arith }
 
   pub ends-room : 8 * k + 8 ≤ length st
   ends-room = let r = E .chains .room in let h = E .inside in omega arith
 
-  module _ {out : List ℕ} {d : ℕ} (W : Way (optionAt book direction) (length (fittingSteps book direction)) (getD (E .list) k nobody .steps) out d) where
+  module _ {out : List ℕ} {d : ℕ} (W : Way (getD (E .list) k nobody .steps) out d) where
     pub way-long : d ≡ length (q .steps)
     way-long = W .long ∙ ap length steps-same
 
-    pub way-steps : d ≤ length out → map (optionAt book direction) (take d out) ≡ q .steps
+    pub way-steps : d ≤ length out → map stepOf (take d out) ≡ q .steps
     way-steps h =
         let l = W .long in
-        ap (λ (m : ℕ). map (optionAt book direction) (take m out)) (W .long)
-        ∙ way-is (optionAt book direction) out (getD (E .list) k nobody .steps) (omega arith) (λ i g. W .step-is i (omega arith)) ∙ steps-same
+        ap (λ (m : ℕ). map stepOf (take m out)) (W .long)
+        ∙ way-is stepOf out (getD (E .list) k nobody .steps) (omega arith) (λ i g. W .step-is i (omega arith)) ∙ steps-same
 
 -- each of the steps has an entry of the book
-module _ {loaded : List ℤ} {direction : List ℕ} {index : List ℕ} {options : List ℕ} {t : Setup} (C : Choices loaded direction index options t) where
-  pub step-entry : (plain : Plain) (out : List ℕ) (d : ℕ) → (plain .count ≡ d) × (stepsOf plain ≡ map (optionAt (bookOf loaded) direction) (take d out))
-      → ((i : ℕ) → i < d → getD out i 0 < length (fittingSteps (bookOf loaded) direction))
-      → (i : ℕ) → i < plain .count → (1 ≤ stepIn plain i .entry) × (stepIn plain i .entry ≤ t .phrases)
-  step-entry plain out d (c, s) inside i h =
-      let f = optionAt (bookOf loaded) direction in
-      let e : f (getD out i 0) ≡ stepIn plain i =
-      sym (sym (step-at plain (plain .count) i (f 0) h) ∙ ap (λ (xs : List Step). getD xs i (f 0)) s ∙ List·getD-map f (take d out) i 0 ∙ ap f (getD-take d out i 0 (omega arith))) in
-      let g = fits-facts (bookOf loaded) direction (f (getD out i 0)) (listed-fits (bookOf loaded) direction (f (getD out i 0)) (getD-mem (fittingSteps (bookOf loaded) direction) (getD out i 0) noStep (inside i (omega arith)))) in
-      let m = C .entries-at .counted in
+module _ {loaded : List ℤ} {direction : List ℕ} {index : List ℕ} {phrases : ℕ} (A : EntriesAt loaded index phrases) {st : List ℤ} {k : ℕ} {q : Hyp} (E : Ends (bookOf loaded) direction st k q) where
+  pub step-entry : (plain : Plain) (out : List ℕ) (d : ℕ) → Way (getD (E .list) k nobody .steps) out d → d ≤ length out → (plain .count ≡ d) × (stepsOf plain ≡ map stepOf (take d out))
+      → (i : ℕ) → i < plain .count → (1 ≤ stepIn plain i .entry) × (stepIn plain i .entry ≤ phrases)
+  step-entry plain out d W l (c, s) i h =
+      let ss : stepsOf plain ≡ q .steps = s ∙ way-steps E W l in
+      let w = way-long E W in
+      let e : getD (q .steps) i noStep ≡ stepIn plain i = sym (sym (step-at plain (plain .count) i noStep h) ∙ ap (λ (xs : List Step). getD xs i noStep) ss) in
+      let g = fits-facts (bookOf loaded) direction (getD (q .steps) i noStep) (E .fitting i (omega arith)) in
+      let m = A .counted in
       (subst (λ (x : Step). 1 ≤ x .entry) e (g .entry-from), (let z : stepIn plain i .entry ≤ length (bookOf loaded .entries) = subst (λ (x : Step). x .entry ≤ length (bookOf loaded .entries)) e (g .entry-to) in omega arith))
 
 -- what is read off the store and written down is what the state says
 pub told : {book : Book} {direction : List ℕ} {st : List ℤ} {k : ℕ} {q : Hyp} (E : Ends book direction st k q) {words₀ words₁ : List ℕ} (plain : Plain) {out : List ℕ} {d many states : ℕ} {score : ℤ}
-    → Way (optionAt book direction) (length (fittingSteps book direction)) (getD (E .list) k nobody .steps) out d → d ≤ length out
-    → (plain .count ≡ d) × (stepsOf plain ≡ map (optionAt book direction) (take d out))
+    → Way (getD (E .list) k nobody .steps) out d → d ≤ length out
+    → (plain .count ≡ d) × (stepsOf plain ≡ map stepOf (take d out))
     → (many ≡ length (targetWords book (stepsOf plain))) × (words₁ ≡ writtenOver (targetWords book (stepsOf plain)) words₀)
     → score ≡ placeAt st k .state .score
     → Told book q states words₀ words₁ (record { plain = plain; reply = Done (record { score = score; steps = d; words = many; states = states }) })

@@ -1,32 +1,32 @@
 -- What is answered of the best state of a search.
 use Prim.Native.Nat.{ℕ, _≤_, _<_}
 use mathlib.Core.Path.{_≡_}
+use mathlib.Core.Bool.{true}
 use mathlib.Core.List.{List}
 use lib.IntN.{ℤ}
 use lib.ListN.{length, getD}
 use Rattle.meaning.specs.Book.{Book}
-use Rattle.meaning.specs.Derivation.{targetWords}
+use Rattle.meaning.specs.Derivation.{noStep, fits, targetWords}
 use Rattle.meaning.specs.Direction.{wordCount}
 use Rattle.meaning.specs.Reply.{writtenOver}
-use Rattle.meaning.specs.Search.{fittingSteps}
 use Rattle.meaning.specs.State.{Hyp}
 use Rattle.meaning.specs.declared.Answer.{Answer}
 use Rattle.meaning.specs.declared.Decoded.the-variants.{Done}
 use Rattle.records.specs.Plain.{stepsOf}
-use Rattle.states.specs.Back.{Chains}
-use Rattle.states.specs.Ghost.{optionAt}
-use Rattle.states.specs.Shows.{nobody, Shows}
+use Rattle.ways.specs.Back.{nobody, Chains}
+use Rattle.states.specs.Shows.{Shows}
 use Rattle.store.specs.Store.{placeAt}
 use Rattle.answer.specs.declared.PlainReply.{PlainReply}
 
 -- the place k of the store holds the state q of the search, and the parents' places lead from it to the start
 pub record Ends (book : Book) (direction : List ℕ) (st : List ℤ) (k : ℕ) (q : Hyp) : Type 0 where
   pub list : List Hyp
-  pub chains : Chains (optionAt book direction) (length (fittingSteps book direction)) st list
+  pub chains : Chains st list
   pub inside : k < length list
   pub is : getD list k nobody ≡ q
   pub shown : Shows (wordCount direction) (placeAt st k) q
   pub short : length (q .steps) ≤ wordCount direction
+  pub fitting : (i : ℕ) → i < length (q .steps) → fits book direction (getD (q .steps) i noStep) ≡ true
 
 -- it holds some state of the search
 pub record Ended (book : Book) (direction : List ℕ) (st : List ℤ) (k : ℕ) : Type 0 where

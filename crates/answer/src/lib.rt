@@ -1,68 +1,27 @@
 // The answer: the best state's steps as plain numbers, and their target words.
 use derivation::Phrase;
-use derivation::Setup;
 use meaning::Answer;
 use meaning::Decoded;
-use meaning::Step;
 use records::Plain;
 ghost use mathlib.Core.Path.{_≡_};
 ghost use mathlib.Core.List.{map};
-ghost use Prim.Native.Nat.{ℕ, _+_, _*_, _≤_, _<_};
+ghost use Prim.Native.Nat.{ℕ, _*_, _≤_, _<_};
 ghost use lib.ListN.{length, getD, take};
 ghost use Rattle.meaning.specs.Book.{Entry, bookOf};
 ghost use Rattle.meaning.specs.Reply.{writtenOver};
-ghost use Rattle.meaning.specs.Search.{fittingSteps};
 ghost use Rattle.derivation.specs.Model.{PhraseOf, Phrased};
 ghost use Rattle.meaning.specs.Derivation.{targetWords};
 ghost use Rattle.book.specs.Entries.{EntriesAt};
-ghost use Rattle.options.specs.Options.{optionsFrom, startAt};
 ghost use Rattle.records.specs.Plain.{stepIn, stepsOf};
-ghost use Rattle.states.specs.Ghost.{optionAt};
+ghost use Rattle.ways.specs.Codes.{stepOf, codes};
 ghost use Rattle.meaning.specs.Direction.{wordCount};
 ghost use Rattle.meaning.specs.State.{Hyp};
 ghost use Rattle.answer.specs.Told.{Ends, Ended, Told};
-ghost use Rattle.extending.specs.Extend.{Choices};
 
 // What a decode answers on plain numbers: the steps to write, none on a refusal, and the reply.
 pub struct PlainReply {
     pub plain: Plain,
     pub reply: Decoded,
-}
-
-// The position, counted from 0, at which the option o stands: each position's options begin where those before it end.
-fn position_of(options: &[u16], n: usize, o: usize) -> usize
-    requires { ⌜ (n ≤ 32) × (optionsFrom ≤ length (now options)) ⌝ }
-    requires { ⌜ (startAt (now options) 0 ≤ o) × (o < startAt (now options) n) ⌝ }
-    ensures { λ r. ⌜ (r < n) × ((startAt (now (options .entry)) r ≤ o) × (o < startAt (now (options .entry)) (r + 1))) ⌝ }
-{
-    let mut i = 0;
-    while options::start_at(options, i + 1) <= o {
-        i += 1;
-    }
-    i
-}
-
-// The step that the option o is. (`direction` is for the contract.)
-fn step_of(
-    book: &[i32],
-    direction: &[u16],
-    index: &[u16],
-    options: &[u16],
-    t: Setup,
-    o: usize,
-) -> Step
-    requires { ⌜ Choices (now book) (now direction) (now index) (now options) t ⌝ }
-    requires { ⌜ o < length (fittingSteps (bookOf (now book)) (now direction)) ⌝ }
-    ensures { λ r. ⌜ r ≡ optionAt (bookOf (now (book .entry))) (now (direction .entry)) o ⌝ }
-{
-    let first = position_of(options, t.n, o) + 1;
-    let entry = options::option_at(options, o);
-    let p = derivation::places::phrase_at(book, index, t.phrases, entry as usize);
-    Step {
-        first: first as u16,
-        last: (first + p.long - 1) as u16,
-        entry,
-    }
 }
 
 // The entry's target words at the beginning of a list.
@@ -78,25 +37,16 @@ fn copy_words(book: &[i32], p: Phrase, words: &mut [u16])
     }
 }
 
-// The steps that the first d options of a row are, as plain numbers.
-fn steps_of(
-    book: &[i32],
-    direction: &[u16],
-    index: &[u16],
-    options: &[u16],
-    t: Setup,
-    way: &[usize],
-    d: usize,
-) -> Plain
-    requires { ⌜ Choices (now book) (now direction) (now index) (now options) t ⌝ }
+// The steps of the first d numbers of a row, as plain numbers.
+fn steps_of(way: &[usize], d: usize) -> Plain
     requires { ⌜ (d ≤ 32) × (d ≤ length (now way)) ⌝ }
-    requires { ⌜ ((k : ℕ) → k < d → getD (now way) k 0 < length (fittingSteps (bookOf (now book)) (now direction))) ⌝ }
-    ensures { λ r. ⌜ (r .count ≡ d) × (stepsOf r ≡ map (optionAt (bookOf (now (book .entry))) (now (direction .entry))) (take d (now (way .entry)))) ⌝ }
+    requires { ⌜ ((k : ℕ) → k < d → getD (now way) k 0 < codes) ⌝ }
+    ensures { λ r. ⌜ (r .count ≡ d) × (stepsOf r ≡ map stepOf (take d (now (way .entry)))) ⌝ }
 {
     let mut plain = records::empty();
     let mut k = 0;
     while k < d {
-        plain = records::with_step(plain, step_of(book, direction, index, options, t, way[k]));
+        plain = records::with_step(plain, ways::steps::step(way[k]));
         k += 1;
     }
     plain
@@ -135,26 +85,25 @@ pub struct Best {
     pub states: usize,
 }
 
-// The answer from the best state: its steps, their words and its score.
+// The answer from the best state: its steps, their words and its score. (`direction` is for the contract.)
 pub fn trace(
     store: &[i64],
     best: Best,
     book: &[i32],
     direction: &[u16],
     index: &[u16],
-    options: &[u16],
-    t: Setup,
+    phrases: usize,
     words: &mut [u16],
 ) -> PlainReply
-    requires { ⌜ Choices (now book) (now direction) (now index) (now options) t ⌝ }
+    requires { ⌜ EntriesAt (now book) (now index) phrases ⌝ }
     requires { ⌜ Ended (bookOf (now book)) (now direction) (now store) (best .at) ⌝ }
     requires { ⌜ 8 * wordCount (now direction) ≤ length (now words) ⌝ }
     ensures { λ r. ⌜ ((q : Hyp) → Ends (bookOf (now (book .entry))) (now (direction .entry)) (now (store .entry)) (best .at) q → Told (bookOf (now (book .entry))) q (best .states) (now (words .entry)) (now (words .exit)) r) ⌝ }
 {
     let mut way = [0usize; 32];
-    let d = states::paths::path(store, best.at, &mut way);
-    let plain = steps_of(book, direction, index, options, t, &way, d);
-    let many = write_words(book, index, t.phrases, plain, words);
+    let d = ways::paths::path(store, best.at, &mut way);
+    let plain = steps_of(&way, d);
+    let many = write_words(book, index, phrases, plain, words);
     let x = store::places::place_at(store, best.at);
     PlainReply {
         plain,

@@ -8,6 +8,7 @@ use lib.ListN.{length, getD, take, drop, set, length-append, length-set, take-ap
 use lib.Seq.{take-at, drop-at, drop-drop, set-split, length-take-le, take-all, append-snoc}
 use Rattle.laws.specs.Lists.{concat}
 use Rattle.laws.proofs.Lists.{take-next, concat-++}
+use Rattle.meaning.specs.Reply.{writtenOver}
 use Rattle.decimals.specs.Put.{Put}
 
 pub put-none : (at : ℕ) (old : List ℕ) → at ≤ length old → Put [] at at old old
@@ -41,13 +42,9 @@ put-then {bs} {cs} {at} {m} {r} {old} {mid} {new} p q =
       list = q .list ∙ rw (took, rest, append-assoc (take at old) bs cs);
     }
 
--- what was put from the start of a list on is what the list begins with
-pub put-first : {bs : List ℕ} {r : ℕ} {old new : List ℕ} → Put bs 0 r old new → (r ≤ length new) × (take r new ≡ bs)
-put-first {bs} {r} {old} p = (omega (arith, p .room, p .same), rw (p .list) (take-at bs (drop r old) r (omega (arith, p .end))))
-
--- and the places beyond are as they were
-pub put-rest : {bs : List ℕ} {r : ℕ} {old new : List ℕ} → Put bs 0 r old new → drop r new ≡ drop r old
-put-rest {bs} {r} {old} p = rw (p .list) (drop-at bs (drop r old) r (omega (arith, p .end)))
+-- at the beginning of the list: it is written over
+pub put-over : {bs : List ℕ} {r : ℕ} {old new : List ℕ} → Put bs 0 r old new → (r ≡ length bs) × (new ≡ writtenOver bs old)
+put-over {bs} {r} {old} p = let e : r ≡ length bs = omega (arith, p .end) in (e, p .list ∙ ap (λ (n : ℕ). bs ++ drop n old) e)
 
 -- ---- a loop that puts something for each element: the bytes of the first i elements are put
 

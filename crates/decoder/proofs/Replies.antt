@@ -1,5 +1,5 @@
 -- The answer on plain numbers is that of the definition, question by question.
-use Prim.Native.Nat.{ℕ, _*_, _/_, _^_, _≤_, _<_}
+use Prim.Native.Nat.{ℕ, zero, suc, _*_, _/_, _^_, _≤_, _<_}
 use native.Mathlib.Omega.{arith}
 use mathlib.Core.Path.{_≡_, refl, sym, _∙_, ap, subst}
 use mathlib.Core.Bool.{Bool, true, false, not, cond, _&&_, _||_, true≢false}
@@ -18,23 +18,27 @@ use Rattle.meaning.specs.Direction.{wordCount, directionRefusal}
 use Rattle.meaning.specs.Derivation.{isValid, targetWords}
 use Rattle.meaning.specs.State.{Hyp, start}
 use Rattle.meaning.specs.Search.{isOff, entered, lastSet, answer}
-use Rattle.meaning.specs.Reply.{refused, done, reply, writtenOver, Lent, Outcome, outcomeOf, decodedReply, beforeSearch, afterSearch, decodeRefusal, decode, decodedStore, ListsAfter}
-use Rattle.meaning.specs.declared.Decoded.{Decoded}
+use Rattle.meaning.specs.Reply.{refused, done, reply, writtenOver, writtenIf, Lent, decodedReply, beforeSearch, afterSearch, decodeRefusal, answerSteps, decode, decodedSteps, decodedWords, decodedStore, Decodes}
+use Rattle.meaning.specs.declared.Answer.{Answer}
+use Rattle.meaning.specs.declared.Decoded.the-variants.{Done}
 use Rattle.meaning.specs.declared.Refusal.{Refusal}
 use Rattle.meaning.specs.declared.Refusal.the-variants.{Width, StepsOrWordsTooShort, StoreTooSmall, NoDerivation, LastSetEmpty}
 use Rattle.meaning.specs.declared.Step.{Step}
 use Rattle.meaning.proofs.Answers.{answer-derives, answer-none}
-use Rattle.meaning.proofs.Demands.{direction-to}
+use Rattle.meaning.proofs.Chains.{refused-is, done-passes, written-done, written-refused}
+use Rattle.meaning.proofs.Demands.{direction-to, decode-counts}
+use Rattle.meaning.proofs.Numbered.{number-from}
 use Rattle.meaning.proofs.Valid.{proposal-valid}
 use Rattle.options.specs.Options.{OptionsOf}
 use Rattle.derivation.specs.Prepared.{Prepared}
 use Rattle.derivation.specs.declared.Setup.{Setup}
 use Rattle.proposal.proofs.Long.{passes-short}
 use Rattle.records.specs.Plain.{stepsOf}
+use Rattle.records.proofs.Laws.{count-steps}
 use Rattle.answer.specs.declared.PlainReply.{PlainReply}
 use Rattle.extending.specs.Extend.{Searchable}
-use Rattle.answer.specs.Told.{answerBy, Told}
-use Rattle.decoder.specs.Decodes.{refusedBy, noAnswer, Concluded, SearchedIf, PlainDecodes}
+use Rattle.answer.specs.Told.{Told}
+use Rattle.decoder.specs.Decodes.{refusedBy, noAnswer, Concluded, SearchedIf, unlessRefused, PlainDecodes}
 
 -- a valid derivation has no more steps than words
 valid-short : (book : Book) (direction : List ℕ) (steps : List Step) → isValid book direction steps ≡ true → length steps ≤ wordCount direction
@@ -56,13 +60,18 @@ some-none : {q : Hyp} → some q ≡ none → ⊥
 some-none e = let t : true ≡ false = ap isSome e in absurd (true≢false t)
 
 -- 14 with pruning off, 15 with a width
-none-reply : (off : Bool) (a : Outcome) → reply (14 unless (not off || not true) orelse 15 unless not true) a ≡ refused (number (cond off NoDerivation LastSetEmpty))
+none-reply : (off : Bool) (a : Answer) → reply (14 unless (not off || not true) orelse 15 unless not true) a ≡ refused (number (cond off NoDerivation LastSetEmpty))
 none-reply true a = refl
 none-reply false a = refl
 
-some-reply : (off : Bool) (a : Outcome) → reply (14 unless (not off || not false) orelse 15 unless not false) a ≡ done a
-some-reply true a = refl
-some-reply false a = refl
+some-passes : (off : Bool) → 14 unless (not off || not false) orelse 15 unless not false ≡ 0
+some-passes true = refl
+some-passes false = refl
+
+-- a refusal has no steps
+none-where : (k : ℕ) (steps : List Step) → 1 ≤ k → unlessRefused k steps ≡ []
+none-where zero steps h = absurd (omega arith)
+none-where (suc k) steps h = refl
 
 module _ (loaded : List ℤ) (direction : List ℕ) (width : ℤ) (room : ℕ) (words₀ : List ℕ) (store₀ : List ℤ) where
   abbrev book : Book
@@ -71,20 +80,26 @@ module _ (loaded : List ℤ) (direction : List ℕ) (width : ℤ) (room : ℕ) (
   abbrev lentOf : ℕ → Lent
   lentOf m = record { steps = m; words = length words₀; store = length store₀ }
 
+  -- the refusal is the reply's
+  refused-with : (refusal : Refusal) → decode loaded direction width (lentOf room) ≡ refused (number refusal) → decodeRefusal loaded direction width (lentOf room) ≡ number refusal
+  unfolding decode
+  refused-with refusal d = refused-is (decodeRefusal loaded direction width (lentOf room)) (number refusal) _ d
+
   -- ════ a refusal
   module _ {words₁ : List ℕ} {store₁ : List ℤ} where
     pub refuses : (refusal : Refusal) → decode loaded direction width (lentOf room) ≡ refused (number refusal) → words₁ ≡ words₀ → store₁ ≡ decodedStore loaded direction width (lentOf room) store₀
         → {r : PlainReply} → r ≡ refusedBy refusal → PlainDecodes loaded direction width room words₀ words₁ store₀ store₁ r
+    unfolding decodedWords
     refuses refusal d w s e =
+        let k : 1 ≤ decodeRefusal loaded direction width (lentOf room) = omega (arith, refused-with refusal d, number-from refusal) in
         subst (PlainDecodes loaded direction width room words₀ words₁ store₀ store₁) (sym e)
         (record {
           has-room = omega arith;
           few = omega arith;
-          decodes = λ steps₀ l. record {
-            reply-is = sym (subst (λ (m : ℕ). decode loaded direction width (lentOf m) ≡ refused (number refusal)) (sym l) d);
-            lists-are = (refl, w);
-            store-is = subst (λ (m : ℕ). store₁ ≡ decodedStore loaded direction width (lentOf m) store₀) (sym l) s;
-          };
+          reply-is = sym d;
+          steps-are = sym (none-where _ _ k);
+          words-are = w ∙ sym (written-refused _ _ _ k);
+          store-is = s;
         })
 
   module _ (b : bookRefusal loaded ≡ 0) (d : directionRefusal direction ≡ 0) where
@@ -119,38 +134,26 @@ module _ (loaded : List ℤ) (direction : List ℕ) (width : ℤ) (room : ℕ) (
             let z : isEmpty (lastSet book direction width) ≡ true = ap isEmpty (answer-none book direction width .0 a) in
             rw (b, d, w, l, e, z) (none-reply (isOff width) _)
 
-        abbrev outcome : Hyp → Outcome
-        outcome q = outcomeOf (answerBy book q (length (entered book direction width)))
-
-        with-state : (q : Hyp) → places ≡ true → answer book direction width ≡ some q → decode loaded direction width (lentOf room) ≡ done (outcome q)
-        unfolding decode decodeRefusal beforeSearch afterSearch
+        with-state : (q : Hyp) → places ≡ true → answer book direction width ≡ some q → decodeRefusal loaded direction width (lentOf room) ≡ 0
+        unfolding decodeRefusal beforeSearch afterSearch
         with-state q e a =
             let z : isEmpty (lastSet book direction width) ≡ false = not-empty (lastSet book direction width) (λ n. some-none (sym a ∙ answer-none book direction width .1 n)) in
-            rw (b, d, w, l, e, z, a) (some-reply (isOff width) _)
+            rw (b, d, w, l, e, z) (some-passes (isOff width))
 
         answers : (q : Hyp) → places ≡ true → answer book direction width ≡ some q → {r : PlainReply} → Told book q (length (entered book direction width)) words₀ words₁ r
             → PlainDecodes loaded direction width room words₀ words₁ store₀ store₁ r
+        unfolding decode decodedWords
         answers q e a {r} T =
-            let v = answer-derives book direction width q a in
-            let short = valid-short book direction (q .steps) (v .steps-valid) in
+            let short = valid-short book direction (q .steps) (answer-derives book direction width q a .steps-valid) in
             let c = T .count-is in
+            let k = with-state q e a in
             record {
               has-room = omega arith;
               few = omega arith;
-              decodes = λ steps₀ m. record {
-                reply-is = ap decodedReply (T .reply-is) ∙ sym (subst (λ (k : ℕ). decode loaded direction width (lentOf k) ≡ done (outcome q)) (sym m) (with-state q e a));
-                lists-are = subst (λ (x : Decoded). ListsAfter book direction x steps₀ (writtenOver (stepsOf (r .plain)) steps₀) words₀ words₁) (sym (T .reply-is))
-                    (record {
-                      steps = q .steps;
-                      words = targetWords book (q .steps);
-                      derivation = v;
-                      steps-counted = refl;
-                      words-counted = refl;
-                      steps-after = ap (λ (xs : List Step). writtenOver xs steps₀) (T .steps-are);
-                      words-after = T .words-after;
-                    });
-                store-is = subst (λ (k : ℕ). store₁ ≡ decodedStore loaded direction width (lentOf k) store₀) (sym m) cleared;
-              };
+              reply-is = rw (k, a) (ap decodedReply (T .reply-is));
+              steps-are = rw (k, a) (T .steps-are);
+              words-are = rw (k, a) (T .words-after);
+              store-is = cleared;
             }
 
         concludes : (o : Option Hyp) → places ≡ true → answer book direction width ≡ o → (r : PlainReply) → Concluded o book width (length (entered book direction width)) words₀ words₁ r
@@ -161,6 +164,45 @@ module _ (loaded : List ℤ) (direction : List ℕ) (width : ℤ) (room : ℕ) (
         pub searches : (p : Bool) → places ≡ p → (r : PlainReply) → SearchedIf p book direction width words₀ words₁ r → PlainDecodes loaded direction width room words₀ words₁ store₀ store₁ r
         searches true e r C = concludes (answer book direction width) e refl r C
         searches false e r (is, same) = refuses StoreTooSmall (full e) same cleared is
+
+-- ════ an answer, as plain numbers and written over a caller's list
+
+module _ {loaded : List ℤ} {direction : List ℕ} {width : ℤ} {room : ℕ} {words₀ words₁ : List ℕ} {store₀ store₁ : List ℤ} {r : PlainReply}
+    (D : PlainDecodes loaded direction width room words₀ words₁ store₀ store₁ r) {a : Answer} (e : r .reply ≡ Done a) where
+  pub plain-decoded : decode loaded direction width (record { steps = room; words = length words₀; store = length store₀ }) ≡ done a
+  plain-decoded = sym (D .reply-is) ∙ ap decodedReply e
+
+  passed : decodeRefusal loaded direction width (record { steps = room; words = length words₀; store = length store₀ }) ≡ 0
+  unfolding decode
+  passed = done-passes (decodeRefusal loaded direction width (record { steps = room; words = length words₀; store = length store₀ })) _ a plain-decoded
+
+  pub plain-steps : stepsOf (r .plain) ≡ answerSteps (answer (bookOf loaded) direction width)
+  plain-steps = D .steps-are ∙ ap (λ (k : ℕ). unlessRefused k (answerSteps (answer (bookOf loaded) direction width))) passed
+
+  pub plain-words : words₁ ≡ writtenOver (targetWords (bookOf loaded) (answerSteps (answer (bookOf loaded) direction width))) words₀
+  unfolding decodedWords
+  plain-words = D .words-are ∙ written-done _ _ words₀ passed
+
+  -- as many as are reported
+  pub plain-count : a .steps ≡ r .plain .count
+  plain-count = decode-counts loaded direction width _ a plain-decoded .0 ∙ ap length (sym plain-steps) ∙ count-steps (r .plain) (r .plain .count)
+
+written : (k : ℕ) (steps old : List Step) → writtenOver (unlessRefused k steps) old ≡ writtenIf k steps old
+written zero steps old = refl
+written (suc k) steps old = refl
+
+pub decodes-into : {loaded : List ℤ} {direction : List ℕ} {width : ℤ} {steps₀ steps₁ : List Step} {words₀ words₁ : List ℕ} {store₀ store₁ : List ℤ} {r : PlainReply}
+    → PlainDecodes loaded direction width (length steps₀) words₀ words₁ store₀ store₁ r → steps₁ ≡ writtenOver (stepsOf (r .plain)) steps₀
+    → Decodes loaded direction width steps₀ steps₁ words₀ words₁ store₀ store₁ (r .reply)
+unfolding decodedSteps
+decodes-into {loaded} {direction} {width} {steps₀} {words₀} {store₀} D e =
+    let lent : Lent = record { steps = length steps₀; words = length words₀; store = length store₀ } in
+    record {
+      reply-is = D .reply-is;
+      steps-are = e ∙ ap (λ (xs : List Step). writtenOver xs steps₀) (D .steps-are) ∙ written (decodeRefusal loaded direction width lent) _ steps₀;
+      words-are = D .words-are;
+      store-is = D .store-is;
+    }
 
 -- ════ the lists of the search are ready
 

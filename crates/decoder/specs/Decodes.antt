@@ -1,14 +1,14 @@
 -- What a decode answers on plain numbers.
-use Prim.Native.Nat.{ℕ, _≤_}
+use Prim.Native.Nat.{ℕ, zero, suc, _≤_}
 use mathlib.Core.Path.{_≡_}
 use mathlib.Core.Bool.{Bool, true, false, cond}
-use mathlib.Core.List.{List}
+use mathlib.Core.List.{List, []}
 use mathlib.Core.Option.{Option, none, some}
 use lib.Dec.{leb}
 use lib.IntN.{ℤ}
 use lib.ListN.{length}
-use Rattle.meaning.specs.Book.{Book}
-use Rattle.meaning.specs.Reply.{writtenOver, Decodes}
+use Rattle.meaning.specs.Book.{Book, bookOf}
+use Rattle.meaning.specs.Reply.{decodedReply, decodeRefusal, answerSteps, decode, decodedWords, decodedStore}
 use Rattle.meaning.specs.Search.{isOff, answer, entered}
 use Rattle.meaning.specs.State.{Hyp}
 use Rattle.meaning.specs.declared.Step.{Step}
@@ -42,9 +42,16 @@ SearchedIf false book direction width words₀ words₁ r = (r ≡ refusedBy Sto
 abbrev pub Searched : Book → List ℕ → ℤ → ℕ → List ℕ → List ℕ → PlainReply → Type 0
 Searched book direction width places words₀ words₁ r = SearchedIf (leb (length (entered book direction width)) places) book direction width words₀ words₁ r
 
--- the answer on plain numbers fixes the whole of a decode into any list of `room` step records
+-- the answer's steps, where no question refuses
+abbrev pub unlessRefused : ℕ → List Step → List Step
+unlessRefused zero steps = steps
+unlessRefused (suc k) steps = []
+
+-- the whole of a decode on plain numbers, for a list of `room` step records
 pub record PlainDecodes (loaded : List ℤ) (direction : List ℕ) (width : ℤ) (room : ℕ) (words₀ words₁ : List ℕ) (store₀ store₁ : List ℤ) (r : PlainReply) : Type 0 where
   pub has-room : r .plain .count ≤ room
   pub few : r .plain .count ≤ 33
-  pub decodes : (steps₀ : List Step) → length steps₀ ≡ room
-      → Decodes loaded direction width steps₀ (writtenOver (stepsOf (r .plain)) steps₀) words₀ words₁ store₀ store₁ (r .reply)
+  pub reply-is : decodedReply (r .reply) ≡ decode loaded direction width (record { steps = room; words = length words₀; store = length store₀ })
+  pub steps-are : stepsOf (r .plain) ≡ unlessRefused (decodeRefusal loaded direction width (record { steps = room; words = length words₀; store = length store₀ })) (answerSteps (answer (bookOf loaded) direction width))
+  pub words-are : words₁ ≡ decodedWords loaded direction width (record { steps = room; words = length words₀; store = length store₀ }) words₀
+  pub store-is : store₁ ≡ decodedStore loaded direction width (record { steps = room; words = length words₀; store = length store₀ }) store₀

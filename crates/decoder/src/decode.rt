@@ -19,7 +19,7 @@ ghost use Rattle.derivation.specs.Prepared.{Prepared};
 ghost use Rattle.options.specs.Options.{optionsSize};
 ghost use Rattle.states.specs.Ghost.{Starting};
 ghost use Rattle.decoder.specs.Decodes.{refusedBy, noAnswer, Concluded, Searched, PlainDecodes};
-ghost use Rattle.extending.specs.Extend.{Choices, Searchable};
+ghost use Rattle.extending.specs.Extend.{Searchable};
 
 // A refusal: no steps are written.
 pub fn refused(refusal: Refusal) -> PlainReply
@@ -49,11 +49,10 @@ fn conclude(
     book: &[i32],
     direction: &[u16],
     index: &[u16],
-    options: &[u16],
     beam: Beam,
     words: &mut [u16],
 ) -> PlainReply
-    requires { ⌜ Choices (now book) (now direction) (now index) (now options) (beam .setup) ⌝ }
+    requires { ⌜ Prepared (now book) (now direction) (now index) (beam .setup) ⌝ }
     requires { ⌜ Starting (bookOf (now book)) (now direction) (beam .width) (wordCount (now direction)) (now store) count ⌝ }
     requires { ⌜ 8 * wordCount (now direction) ≤ length (now words) ⌝ }
     ensures { λ r. ⌜ Concluded (answer (bookOf (now (book .entry))) (now (direction .entry)) (beam .width)) (bookOf (now (book .entry))) (beam .width) (length (entered (bookOf (now (book .entry))) (now (direction .entry)) (beam .width))) (now (words .entry)) (now (words .exit)) r ⌝ }
@@ -69,16 +68,8 @@ fn conclude(
                 at: k,
                 states: count,
             };
-            let told = answer::trace(
-                store,
-                best,
-                book,
-                direction,
-                index,
-                options,
-                beam.setup,
-                words,
-            );
+            let phrases = beam.setup.phrases;
+            let told = answer::trace(store, best, book, direction, index, phrases, words);
             clearing::clear_used(store, count);
             told
         }
@@ -107,7 +98,7 @@ fn search_for_best(
             clearing::clear(store);
             refused(Refusal::StoreTooSmall)
         }
-        Grown::On(count) => conclude(store, count, book, direction, index, options, beam, words),
+        Grown::On(count) => conclude(store, count, book, direction, index, beam, words),
     }
 }
 

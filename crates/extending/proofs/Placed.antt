@@ -32,6 +32,8 @@ use Rattle.derivation.proofs.Next.{next-key, next-score}
 use Rattle.states.specs.Shows.{Fine}
 use Rattle.states.specs.Ghost.{optionAt, NextPlace}
 use Rattle.store.specs.declared.Place.{Place}
+use Rattle.ways.specs.Codes.{codeOf}
+use Rattle.ways.proofs.Codes.{code-back}
 use Rattle.extending.specs.Extend.{nextPlace, CanPlace}
 use Rattle.extending.specs.declared.Turn.{Turn}
 
@@ -70,8 +72,8 @@ module _ {loaded : List ℤ} {direction : List ℕ} {index : List ℕ} {t : Setu
     unfolding keyOf
     small = mask-fits step n (x .state .covered) (facts .first-from) (facts .first-to) last-to (fine .covered-in) free
 
-    pub can-place : jumpFrom (x .state .r) first ≤ t .limit → Within scoreBound (x .state .score) → x .size ≤ n → CanPlace t p (turn .spot)
-    can-place near within size =
+    pub can-place : jumpFrom (x .state .r) first ≤ t .limit → Within scoreBound (x .state .score) → x .size ≤ n → k ≤ t .phrases → CanPlace t p turn
+    can-place near within size entry =
         let N = fine .few in
         let l = loaded-ranged loaded (R .passed) in
         let d = l .limit-to in
@@ -90,6 +92,7 @@ module _ {loaded : List ℤ} {direction : List ℕ} {index : List ℕ} {t : Setu
                 score-within = within;
               });
           size-small = omega arith;
+          entry-fits = (let b = R .entries-at .few in omega arith);
         }
 
     -- the state, with the step's last position
@@ -118,10 +121,22 @@ module _ {loaded : List ℤ} {direction : List ℕ} {index : List ℕ} {t : Setu
     unfolding nextState
     after-fine = record { few = fine .few; covered-in = small; r-in = (let l = last-to in let N = fine .few in omega arith) }
 
-    pub next-place : optionAt book direction (turn .option) ≡ step → x .size ≡ wordsCovered (keyOf n (x .state))
+    -- the step's number
+    abbrev made : Step
+    made = record { first = first; last = first + p .long - 1; entry = k }
+
+    made-step : made ≡ step
+    made-step = let e = last-is in λ i. record { first = first; last = sym e i; entry = k }
+
+    pub next-place : k ≤ t .phrases → optionAt book direction (turn .option) ≡ step → x .size ≡ wordsCovered (keyOf n (x .state))
         → NextPlace book direction x (turn .spot .source .at) (turn .option) (nextPlace index t p (entryAt book k) turn)
-    unfolding nextPlace
-    next-place is size =
+    unfolding nextPlace codeOf
+    next-place entry is size =
+        let N = fine .few in
+        let l = last-to in
+        let e = last-is in
+        let f = facts .first-to in
+        let b = R .entries-at .few in
         let key : keyOf n (nextState index t p (entryAt book k) first (first + p .long - 1) (x .state)) ≡ nextKey book (keyOf n (x .state)) step = ap (keyOf n) state-is ∙ key-is in
         record {
           key-is = key ∙ ap (nextKey book (keyOf n (x .state))) (sym is);
@@ -130,5 +145,6 @@ module _ {loaded : List ℤ} {direction : List ℕ} {index : List ℕ} {t : Setu
           size-is = ap (λ (m : ℕ). m + p .long) size ∙ sym more ∙ ap wordsCovered (sym key);
           fine = subst (Fine n) (sym state-is) after-fine;
           parent-is = refl;
-          option-is = refl;
+          step-is = code-back made (omega arith) (omega arith) ∙ made-step ∙ sym is;
+          step-in = omega arith;
         }

@@ -33,7 +33,8 @@ use Rattle.store.specs.declared.Place.{Place}
 use Rattle.states.specs.declared.Added.{Added}
 use Rattle.states.specs.declared.Added.the-variants.{Replaced, Kept, Appended, Full}
 use Rattle.states.specs.declared.Grown.{Grown}
-use Rattle.states.proofs.Ghost.{skipped, went, chosen-score, next-storable}
+use Rattle.states.specs.Order.{Leading}
+use Rattle.states.proofs.Ghost.{skipped, went, chosen-score, next-storable, leads}
 use Rattle.extending.specs.Extend.{nextPlace, CanPlace, grownBy, Grows, Searchable, SpotOf, TurnOf}
 use Rattle.extending.specs.declared.Beam.{Beam}
 use Rattle.extending.specs.declared.Source.{Source}
@@ -107,15 +108,15 @@ module _ {loaded : List ℤ} {direction : List ℕ} {index : List ℕ} {beam : B
     size-to : x .size ≤ n
     size-to = let l = T .spot-of .chosen .low in let e = T .spot-of .chosen .sized in omega arith
 
-    pub turn-can : CanPlace (beam .setup) p (turn .spot)
+    pub turn-can : CanPlace (beam .setup) p turn
     turn-can =
         let N = T .spot-of .chosen .shown .fine .few in
         let s = size-to in
         can-place (T .prepared) turn of (T .spot-of .chosen .shown .fine) fit free (T .near)
-        (within-mono (omega arith) (chosen-score book direction (beam .width) (loaded-ranged loaded (T .prepared .passed)) (T .spot-of .chosen))) s
+        (within-mono (omega arith) (chosen-score book direction (beam .width) (loaded-ranged loaded (T .prepared .passed)) (T .spot-of .chosen))) s (T .entry-to)
 
     pub turn-next : NextPlace book direction x j o (nextPlace index (beam .setup) p (entryAt book k) turn)
-    turn-next = next-place (T .prepared) turn of (T .spot-of .chosen .shown .fine) fit free (T .option-is) (T .spot-of .chosen .shown .size-is)
+    turn-next = next-place (T .prepared) turn of (T .spot-of .chosen .shown .fine) fit free (T .entry-to) (T .option-is) (T .spot-of .chosen .shown .size-is)
 
     -- each answer of add_place goes one option further
     pub turn-grows : (y : Place) → y ≡ nextPlace index (beam .setup) p (entryAt book k) turn → {st st′ : List ℤ} {count : ℕ} → Growing book direction (beam .width) (x .size) j o st count
@@ -131,7 +132,10 @@ module _ {loaded : List ℤ} {direction : List ℕ} {index : List ℕ} {beam : B
         by Full u = u
 
     pub turn-storable : (y : Place) → y ≡ nextPlace index (beam .setup) p (entryAt book k) turn → Storable y
-    turn-storable y e = subst Storable (sym e) (next-storable book direction (beam .width) turn-next (T .spot-of .place-small) (T .option-small))
+    turn-storable y e = subst Storable (sym e) (next-storable book direction (beam .width) turn-next (T .spot-of .place-small))
+
+    pub turn-leads : (y : Place) → y ≡ nextPlace index (beam .setup) p (entryAt book k) turn → {st : List ℤ} {count : ℕ} → Growing book direction (beam .width) (x .size) j o st count → Leading st count y
+    turn-leads y e G = leads book direction (beam .width) (T .spot-of .chosen) (T .option-in) G (may-is true (le-leb (p .long) run h)) (subst (NextPlace book direction x j o) (sym e) turn-next)
 
 -- several options that may not extend the state
 module _ (bk : Book) (direction : List ℕ) (width : ℤ) (i j : ℕ) (x : Place) (A : Chosen bk direction width i j x) (from : ℕ) (st : List ℤ) (count : ℕ) where
@@ -213,7 +217,6 @@ module _ {loaded : List ℤ} {direction : List ℕ} {index : List ℕ} {options 
         spot-of = S;
         near = near;
         option-in = omega arith;
-        option-small = (let s = R .choices .options-small in let r = R .choices .options-of .room in omega arith);
         option-is = each o a b;
         entry-from = q .0;
         entry-to = (let z = q .1 in omega arith);

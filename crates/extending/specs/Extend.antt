@@ -21,6 +21,7 @@ use Rattle.derivation.specs.declared.Setup.{Setup}
 use Rattle.derivation.specs.declared.Phrase.{Phrase}
 use Rattle.states.specs.Adding.{AddedOf, IndexedAfter}
 use Rattle.store.specs.declared.Place.{Place}
+use Rattle.ways.specs.Codes.{codeOf}
 use Rattle.states.specs.declared.Added.{Added}
 use Rattle.states.specs.declared.Added.the-variants.{Replaced, Kept, Appended, Full}
 use Rattle.states.specs.declared.Grown.{Grown}
@@ -31,12 +32,18 @@ unfoldable pub nextPlace : List ℕ → Setup → Phrase → Entry → Turn → 
 nextPlace index t p e turn =
     let spot = turn .spot in
     let x = spot .source .place in
-    record { state = nextState index t p e (spot .first) (spot .first + p .long - 1) (x .state); size = x .size + p .long; parent = spot .source .at; option = turn .option }
+    record {
+      state = nextState index t p e (spot .first) (spot .first + p .long - 1) (x .state);
+      size = x .size + p .long;
+      parent = spot .source .at;
+      step = codeOf (record { first = spot .first; last = spot .first + p .long - 1; entry = turn .entry });
+    }
 
 -- the numbers are small enough for it
-pub record CanPlace (t : Setup) (p : Phrase) (spot : Spot) : Type 0 where
-  pub next : CanNext t (spot .first) (spot .first + p .long - 1) (spot .source .place .state)
-  pub size-small : spot .source .place .size ≤ 32
+pub record CanPlace (t : Setup) (p : Phrase) (turn : Turn) : Type 0 where
+  pub next : CanNext t (turn .spot .first) (turn .spot .first + p .long - 1) (turn .spot .source .place .state)
+  pub size-small : turn .spot .source .place .size ≤ 32
+  pub entry-fits : turn .entry < 65_536
 
 -- how many states there are after each answer of add_place
 abbrev pub grownBy : ℕ → Added → Grown
@@ -81,7 +88,6 @@ pub record TurnOf (loaded : List ℤ) (direction : List ℕ) (index : List ℕ) 
   pub spot-of : SpotOf loaded direction beam (turn .spot)
   pub near : jumpFrom (turn .spot .source .place .state .r) (turn .spot .first) ≤ beam .setup .limit
   pub option-in : turn .option < length (fittingSteps (bookOf loaded) direction)
-  pub option-small : turn .option < 2 ^ 63
   pub option-is : optionAt (bookOf loaded) direction (turn .option) ≡ stepAt (bookOf loaded) (turn .spot .first) (turn .entry)
   pub entry-from : 1 ≤ turn .entry
   pub entry-to : turn .entry ≤ beam .setup .phrases

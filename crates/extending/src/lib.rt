@@ -10,6 +10,7 @@ ghost use Rattle.meaning.specs.Book.{Entry, bookOf};
 ghost use Rattle.derivation.specs.Model.{Model, PhraseOf, Phrased};
 ghost use Rattle.options.specs.Options.{startAt};
 ghost use Rattle.store.specs.Store.{Indexed, Storable};
+ghost use Rattle.states.specs.Order.{Leading};
 ghost use Rattle.states.specs.Ghost.{Chosen, Growing, Grew, Levelled};
 ghost use Rattle.extending.specs.Extend.{Grows, nextPlace, CanPlace, Searchable, SpotOf, TurnOf};
 
@@ -32,7 +33,7 @@ pub struct Spot {
     pub run: usize,
 }
 
-// By what it is extended there: by the option with that number, which is that entry.
+// By what it is extended there: by that entry, which is the option with that number. (`option` is for the contracts.)
 pub struct Turn {
     pub spot: Spot,
     pub option: usize,
@@ -43,7 +44,7 @@ pub struct Turn {
 fn next_place(book: &[i32], index: &[u16], t: Setup, p: Phrase, turn: Turn) -> Place
     requires { ⌜ Model (now index) t ⌝ }
     requires { ⌜ Phrased (now book) p ⌝ }
-    requires { ⌜ CanPlace t p (turn .spot) ⌝ }
+    requires { ⌜ CanPlace t p turn ⌝ }
     ensures { λ y. ⌜ ((e : Entry) → PhraseOf (now (book .entry)) e p → y ≡ nextPlace (now (index .entry)) t p e turn) ⌝ }
 {
     let spot = turn.spot;
@@ -54,7 +55,7 @@ fn next_place(book: &[i32], index: &[u16], t: Setup, p: Phrase, turn: Turn) -> P
         state,
         size: x.size + p.long,
         parent: spot.source.at,
-        option: turn.option,
+        step: ways::steps::code(spot.first, last, turn.entry),
     }
 }
 
@@ -62,6 +63,7 @@ fn next_place(book: &[i32], index: &[u16], t: Setup, p: Phrase, turn: Turn) -> P
 fn grow(store: &mut [i64], count: usize, y: Place) -> Grown
     requires { ⌜ Indexed (now store) count ⌝ }
     requires { ⌜ Storable y ⌝ }
+    requires { ⌜ Leading (now store) count y ⌝ }
     ensures { λ r. ⌜ Grows (now (store .entry)) (now (store .exit)) count y r ⌝ }
 {
     match states::adding::add_place(store, count, y) {

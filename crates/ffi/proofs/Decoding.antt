@@ -1,62 +1,64 @@
--- A decode into step records is one into the numbers that they are; its counts fit a signed number.
-use Prim.Native.Nat.{ℕ, _/_, _≤_, _<_}
+-- The steps of a decode, put as numbers, are the definition's; its counts fit a signed number.
+use Prim.Native.Nat.{ℕ, zero, suc, _/_, _<_}
 use native.Mathlib.Omega.{arith}
-use mathlib.Core.Path.{_≡_, sym, ap, subst}
+use mathlib.Core.Path.{_≡_, refl, sym, _∙_, ap, subst}
 use mathlib.Core.List.{List}
 use lib.IntN.{ℤ}
-use lib.ListN.{length, drop, length-append, length-drop}
-use Rattle.meaning.specs.Reply.{Lent, Outcome, outcomeOf, decode, writtenOver, filledWith, decodedReply, Decodes}
+use lib.ListN.{length, drop, length-append}
+use Rattle.meaning.specs.Book.{bookOf}
+use Rattle.meaning.specs.Derivation.{targetWords}
+use Rattle.meaning.specs.Search.{answer}
+use Rattle.meaning.specs.Reply.{Reply, done, Lent, writtenOver, writtenIf, filledWith, decodedReply, decodeRefusal, answerSteps, decode}
 use Rattle.meaning.specs.declared.Answer.{Answer}
-use Rattle.meaning.specs.declared.Decoded.{Decoded}
 use Rattle.meaning.specs.declared.Decoded.the-variants.{Done}
 use Rattle.meaning.specs.declared.Step.{Step}
-use Rattle.meaning.proofs.Demands.{answered}
+use Rattle.meaning.proofs.Demands.{answered, decode-counts}
 use Rattle.records.specs.Plain.{stepsOf}
-use Rattle.records.proofs.Laws.{count-steps}
-use Rattle.decoder.specs.Decodes.{PlainDecodes}
+use Rattle.decoder.specs.Decodes.{unlessRefused, PlainDecodes}
+use Rattle.decoder.proofs.Replies.{plain-decoded, plain-words, plain-count}
 use Rattle.answer.specs.declared.PlainReply.{PlainReply}
 use Rattle.lists.specs.Report.{Countable}
-use Rattle.lists.specs.Steps.{recordsIn, StepsPut}
-use Rattle.ffi.specs.Calls.{zeroOrRefusal, decodeReport, DecodesNumbers}
+use Rattle.lists.specs.Steps.{numbersOf}
+use Rattle.ffi.specs.Calls.{zeroOrRefusal, decodeReport, lentNumbers, decodedNumbers, DecodesNumbers}
 use Rattle.lists.proofs.Threes.{how-many}
 
-over-le : {A : Type 0} (xs old : List A) → length xs ≤ length (writtenOver xs old)
-over-le xs old = let a = length-append xs (drop (length xs) old) in omega arith
+written : (k : ℕ) (steps : List Step) (old : List ℕ) → writtenOver (numbersOf (unlessRefused k steps)) old ≡ writtenIf k (numbersOf steps) old
+written zero steps old = refl
+written (suc k) steps old = refl
 
 module _ (loaded : List ℤ) (direction : List ℕ) (width : ℤ) (steps₀ steps₁ words₀ words₁ : List ℕ) (store₀ store₁ : List ℤ) (core : PlainReply) where
-  module _ (c : PlainDecodes loaded direction width (length steps₀ / 3) words₀ words₁ store₀ store₁ core) where
-    -- the decode, into the records
-    into : Decodes loaded direction width (recordsIn steps₀) (writtenOver (stepsOf (core .plain)) (recordsIn steps₀)) words₀ words₁ store₀ store₁ (core .reply)
-    into = c .decodes (recordsIn steps₀) (how-many steps₀)
+  abbrev lent : Lent
+  lent = lentNumbers steps₀ words₀ store₀
 
-    pub decoded-numbers : (report₀ report₁ : List ℤ) (result : ℤ) → StepsPut (core .plain) steps₀ steps₁ → result ≡ zeroOrRefusal (decodedReply (core .reply)) → report₁ ≡ filledWith (decodeReport (core .reply)) report₀
+  -- the steps that the search arrives at
+  abbrev found : List Step
+  found = answerSteps (answer (bookOf loaded) direction width)
+
+  module _ (c : PlainDecodes loaded direction width (length steps₀ / 3) words₀ words₁ store₀ store₁ core) where
+    -- for as many steps as the numbers are
+    into : PlainDecodes loaded direction width (lent .steps) words₀ words₁ store₀ store₁ core
+    into = subst (λ (room : ℕ). PlainDecodes loaded direction width room words₀ words₁ store₀ store₁ core) (sym (how-many steps₀)) c
+
+    pub decoded-numbers : (report₀ report₁ : List ℤ) (result : ℤ) → steps₁ ≡ writtenOver (numbersOf (stepsOf (core .plain))) steps₀ → result ≡ zeroOrRefusal (decodedReply (core .reply))
+        → report₁ ≡ filledWith (decodeReport (decodedReply (core .reply))) report₀
         → DecodesNumbers loaded direction width steps₀ steps₁ words₀ words₁ store₀ store₁ report₀ report₁ result
+    unfolding decodedNumbers
     decoded-numbers report₀ report₁ result p e r =
         record {
-          reply = core .reply;
-          decodes = subst (λ (s : List Step). Decodes loaded direction width (recordsIn steps₀) s words₀ words₁ store₀ store₁ (core .reply)) (sym (p .records)) into;
-          same-length = p .same-length;
-          left-over = p .left-over;
-          result-is = e;
-          report-is = r;
+          result-is = e ∙ ap zeroOrRefusal (into .reply-is);
+          steps-are = p ∙ ap (λ (xs : List Step). writtenOver (numbersOf xs) steps₀) (into .steps-are) ∙ written (decodeRefusal loaded direction width lent) found steps₀;
+          words-are = into .words-are;
+          store-is = into .store-is;
+          report-is = r ∙ ap (λ (x : Reply Answer). filledWith (decodeReport x) report₀) (into .reply-is);
         }
 
     pub countable : (a : Answer) → core .reply ≡ Done a → length steps₀ < 9_223_372_036_854_775_808 → length words₁ < 9_223_372_036_854_775_808 → length store₀ < 9_223_372_036_854_775_808 → Countable a
     countable a e s w t =
-        let d = subst (λ (r : Decoded). Decodes loaded direction width (recordsIn steps₀) (writtenOver (stepsOf (core .plain)) (recordsIn steps₀)) words₀ words₁ store₀ store₁ r) e into in
-        let l = d .lists-are in
-        let lent : Lent = record { steps = length (recordsIn steps₀); words = length words₀; store = length store₀ } in
-        let o : Outcome = outcomeOf a in
-        let f = answered loaded direction width lent o (sym (d .reply-is)) in
-        let steps-to = over-le (l .steps) (recordsIn steps₀) in
-        let steps-is = ap length (l .steps-after) in
-        let words-to = over-le (l .words) words₀ in
-        let words-is = ap length (l .words-after) in
-        let plain-is = length-append (stepsOf (core .plain)) (drop (length (stepsOf (core .plain))) (recordsIn steps₀)) in
-        let plain-rest = length-drop (length (stepsOf (core .plain))) (recordsIn steps₀) in
-        let many = how-many steps₀ in
+        let d : decode loaded direction width lent ≡ done a = plain-decoded into e in
+        let words = targetWords (bookOf loaded) found in
+        let f = answered loaded direction width lent a d in
         record {
-          steps = omega (arith, l .steps-counted, c .has-room, count-steps (core .plain) (core .plain .count));
-          words = omega (arith, l .words-counted);
+          steps = omega (arith, plain-count into e, c .has-room);
+          words = omega (arith, decode-counts loaded direction width lent a d .1, ap length (plain-words into e), length-append words (drop (length words) words₀));
           states = omega (arith, f .room, f .states-are);
         }

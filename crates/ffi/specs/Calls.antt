@@ -1,13 +1,14 @@
 -- What C sees of a call: one number as the answer, steps as plain numbers, and a report.
-use Prim.Native.Nat.{ℕ, _*_}
+use Prim.Native.Nat.{ℕ}
 use mathlib.Core.Path.{_≡_}
 use mathlib.Core.List.{List, [], _∷_}
 use lib.IntN.{ℤ, pos, negℤ}
-use lib.ListN.{length, drop}
-use Rattle.meaning.specs.Reply.{Reply, refused, done, filledWith, countsOf, decodedReply, Decodes}
-use Rattle.meaning.specs.declared.Decoded.{Decoded}
-use Rattle.meaning.specs.declared.Decoded.the-variants.{Done, Refused}
-use Rattle.lists.specs.Steps.{recordsIn}
+use lib.ListN.{length}
+use Rattle.meaning.specs.Book.{bookOf}
+use Rattle.meaning.specs.Search.{answer}
+use Rattle.meaning.specs.Reply.{Reply, refused, done, writtenIf, filledWith, countsOf, Lent, decodeRefusal, answerSteps, decode, decodedWords, decodedStore}
+use Rattle.meaning.specs.declared.Answer.{Answer}
+use Rattle.lists.specs.Steps.{recordsIn, numbersOf}
 
 -- "numbers written, or minus the refusal"
 abbrev pub countOrRefusal : Reply ℕ → ℤ
@@ -25,17 +26,25 @@ scoreReport (done score) = score ∷ []
 scoreReport (refused k) = []
 
 -- what a decode reports: "score, steps, words, states"; "nothing on a refusal"
-abbrev pub decodeReport : Decoded → List ℤ
-decodeReport (Done a) = countsOf a
-decodeReport (Refused refusal) = []
+abbrev pub decodeReport : Reply Answer → List ℤ
+decodeReport (done a) = countsOf a
+decodeReport (refused k) = []
 
--- a decode into plain numbers is one into the step records that they are: before (₀) and after (₁). The numbers left over are as
--- before, and "A report list gets as many of its values as it has places"
+-- what is lent: each whole step is a place of the step list
+abbrev pub lentNumbers : List ℕ → List ℕ → List ℤ → Lent
+lentNumbers steps words store = record { steps = length (recordsIn steps); words = length words; store = length store }
+
+-- the steps as numbers, at the beginning of those that are lent
+unfoldable pub decodedNumbers : List ℤ → List ℕ → ℤ → Lent → List ℕ → List ℕ
+decodedNumbers loaded direction width lent numbers =
+    writtenIf (decodeRefusal loaded direction width lent) (numbersOf (answerSteps (answer (bookOf loaded) direction width))) numbers
+
+-- the whole of a decode into plain numbers: its answer, and each lent list before (₀) and after (₁). "A report list gets as many of
+-- its values as it has places"
 pub record DecodesNumbers (loaded : List ℤ) (direction : List ℕ) (width : ℤ) (steps₀ steps₁ words₀ words₁ : List ℕ)
     (store₀ store₁ report₀ report₁ : List ℤ) (result : ℤ) : Type 0 where
-  pub reply : Decoded
-  pub decodes : Decodes loaded direction width (recordsIn steps₀) (recordsIn steps₁) words₀ words₁ store₀ store₁ reply
-  pub same-length : length steps₁ ≡ length steps₀
-  pub left-over : drop (3 * length (recordsIn steps₀)) steps₁ ≡ drop (3 * length (recordsIn steps₀)) steps₀
-  pub result-is : result ≡ zeroOrRefusal (decodedReply reply)
-  pub report-is : report₁ ≡ filledWith (decodeReport reply) report₀
+  pub result-is : result ≡ zeroOrRefusal (decode loaded direction width (lentNumbers steps₀ words₀ store₀))
+  pub steps-are : steps₁ ≡ decodedNumbers loaded direction width (lentNumbers steps₀ words₀ store₀) steps₀
+  pub words-are : words₁ ≡ decodedWords loaded direction width (lentNumbers steps₀ words₀ store₀) words₀
+  pub store-is : store₁ ≡ decodedStore loaded direction width (lentNumbers steps₀ words₀ store₀) store₀
+  pub report-is : report₁ ≡ filledWith (decodeReport (decode loaded direction width (lentNumbers steps₀ words₀ store₀))) report₀

@@ -1,14 +1,15 @@
 -- Numbers read three at a time as steps: the first steps are those of the first numbers.
-use Prim.Native.Nat.{ℕ, zero, suc, _+_, _*_, _/_, _-_, _≤_, _<_, min}
+use Prim.Native.Nat.{ℕ, zero, suc, _+_, _*_, _/_, _≤_, _<_, min}
 use native.Mathlib.Omega.{arith}
 use mathlib.Core.Path.{_≡_, refl, sym, _∙_, ap}
 use mathlib.Core.List.{List, [], _∷_, _++_}
-use lib.ListN.{length, getD, take, drop, length-append, length-drop}
-use lib.Seq.{length-take-le, take-at, drop-append-add, drop-drop}
+use lib.ListN.{length, getD, take, drop}
+use lib.Seq.{length-take-le, take-at}
+use Rattle.meaning.specs.Reply.{writtenOver}
 use Rattle.meaning.specs.declared.Step.{Step}
 use Rattle.records.specs.declared.Plain.{Plain}
 use Rattle.records.specs.Plain.{stepIn, stepsTo, stepsOf}
-use Rattle.lists.specs.Steps.{recordsIn, StepsPut}
+use Rattle.lists.specs.Steps.{recordsIn, numbersOf}
 
 abbrev stepAt : List ℕ → ℕ → Step
 stepAt numbers i = record { first = getD numbers (i * 3) 0; last = getD numbers (i * 3 + 1) 0; entry = getD numbers (i * 3 + 2) 0 }
@@ -44,15 +45,6 @@ pub first-steps : (p : Plain) (k : ℕ) → k * 3 ≤ length (p .numbers) → st
 first-steps p zero h = refl
 first-steps p (suc k) h = ap (λ (l : List Step). l ++ (stepIn p k ∷ [])) (first-steps p k (omega arith)) ∙ one-more k (p .numbers) h
 
--- steps that stand in front
-pub steps-append : (k : ℕ) (front rest : List ℕ) → length front ≡ k * 3 → recordsIn (front ++ rest) ≡ recordsIn front ++ recordsIn rest
-steps-append zero [] rest h = refl
-steps-append zero (a ∷ front) rest h = absurd (omega arith)
-steps-append (suc k) [] rest h = absurd (omega arith)
-steps-append (suc k) (a ∷ []) rest h = absurd (omega arith)
-steps-append (suc k) (a ∷ b ∷ []) rest h = absurd (omega arith)
-steps-append (suc k) (a ∷ b ∷ c ∷ front) rest h = ap (λ (l : List Step). record { first = a; last = b; entry = c } ∷ l) (steps-append k front rest (omega arith))
-
 -- what three numbers more make of the numbers behind them
 take-three : (k : ℕ) → ((l : List ℕ) → recordsIn (take (k * 3) l) ≡ take k (recordsIn l)) → (l : List ℕ) → recordsIn (take (suc (suc (suc (k * 3)))) l) ≡ take (suc k) (recordsIn l)
 take-three k f [] = refl
@@ -64,15 +56,14 @@ pub take-steps : (k : ℕ) (numbers : List ℕ) → recordsIn (take (k * 3) numb
 take-steps zero numbers = refl
 take-steps (suc k) numbers = let e : suc k * 3 ≡ suc (suc (suc (k * 3))) = omega arith in rw e (take-three k (λ l. take-steps k l) numbers)
 
-drop-three : (k : ℕ) → ((l : List ℕ) → recordsIn (drop (k * 3) l) ≡ drop k (recordsIn l)) → (l : List ℕ) → recordsIn (drop (suc (suc (suc (k * 3)))) l) ≡ drop (suc k) (recordsIn l)
-drop-three k f [] = refl
-drop-three k f (a ∷ []) = refl
-drop-three k f (a ∷ b ∷ []) = refl
-drop-three k f (a ∷ b ∷ c ∷ l) = f l
-
-pub drop-steps : (k : ℕ) (numbers : List ℕ) → recordsIn (drop (k * 3) numbers) ≡ drop k (recordsIn numbers)
-drop-steps zero numbers = refl
-drop-steps (suc k) numbers = let e : suc k * 3 ≡ suc (suc (suc (k * 3))) = omega arith in rw e (drop-three k (λ l. drop-steps k l) numbers)
+-- the numbers of the steps that whole threes are
+numbers-back : (k : ℕ) (numbers : List ℕ) → length numbers ≡ k * 3 → numbersOf (recordsIn numbers) ≡ numbers
+numbers-back zero [] h = refl
+numbers-back zero (a ∷ numbers) h = absurd (omega arith)
+numbers-back (suc k) [] h = absurd (omega arith)
+numbers-back (suc k) (a ∷ []) h = absurd (omega arith)
+numbers-back (suc k) (a ∷ b ∷ []) h = absurd (omega arith)
+numbers-back (suc k) (a ∷ b ∷ c ∷ numbers) h = ap (λ (l : List ℕ). a ∷ b ∷ c ∷ l) (numbers-back k numbers (omega arith))
 
 -- ════ gathered, and put
 
@@ -99,32 +90,15 @@ gathered steps numbers rest count j c e l n =
     front = take-at (take j steps) rest (count * 3) (length-take-le j steps (omega arith) ∙ e) ∙ ap (λ (k : ℕ). take k steps) e
 
 -- the numbers of `count` steps, copied over a caller's numbers
-pub put-steps : (p : Plain) (steps₀ steps₁ : List ℕ) (j : ℕ) → j ≡ p .count * 3 → p .count * 3 ≤ length (p .numbers) → p .count * 3 ≤ length steps₀
-    → steps₁ ≡ take j (p .numbers) ++ drop j steps₀ → StepsPut p steps₀ steps₁
-put-steps p steps₀ steps₁ j e n l is =
-    record {
-      records = ap recordsIn is ∙ steps-append (p .count) (take j (p .numbers)) (drop j steps₀) (front-long ∙ e) ∙ rw (e, take-steps, drop-steps, steps-are, steps-long);
-      same-length = ap length is ∙ length-append (take j (p .numbers)) (drop j steps₀) ∙ (let d = length-drop j steps₀ in let f = front-long in omega arith);
-      left-over = ap (drop all) is ∙ ap (λ (k : ℕ). drop k (take j (p .numbers) ++ drop j steps₀)) seam ∙ drop-append-add (take j (p .numbers)) (drop j steps₀) (all - j) ∙ drop-drop (all - j) j steps₀ ∙ ap (λ (k : ℕ). drop k steps₀) whole;
-    }
+pub put-steps : (p : Plain) (steps₀ steps₁ : List ℕ) (j : ℕ) → j ≡ p .count * 3 → p .count * 3 ≤ length (p .numbers)
+    → steps₁ ≡ take j (p .numbers) ++ drop j steps₀ → steps₁ ≡ writtenOver (numbersOf (stepsOf p)) steps₀
+put-steps p steps₀ steps₁ j e n is = is ∙ rw (sym front) (ap (λ (k : ℕ). take j (p .numbers) ++ drop k steps₀) (sym front-long))
   where
-    all : ℕ
-    all = 3 * length (recordsIn steps₀)
-
-    below : j ≤ all
-    below = let h = many steps₀ in omega (arith, h .1)
-
     front-long : length (take j (p .numbers)) ≡ j
     front-long = length-take-le j (p .numbers) (omega arith)
 
-    seam : all ≡ length (take j (p .numbers)) + (all - j)
-    seam = let f = front-long in let b = below in omega arith
-
-    whole : j + (all - j) ≡ all
-    whole = let b = below in omega arith
-
-    steps-are : stepsOf p ≡ take (p .count) (recordsIn (p .numbers))
-    steps-are = first-steps p (p .count) n
-
-    steps-long : length (take (p .count) (recordsIn (p .numbers))) ≡ p .count
-    steps-long = length-take-le (p .count) (recordsIn (p .numbers)) (let h = many (p .numbers) in omega (arith, h .1))
+    front : take j (p .numbers) ≡ numbersOf (stepsOf p)
+    front =
+        sym (numbers-back (p .count) (take j (p .numbers)) (front-long ∙ e))
+        ∙ ap (λ (k : ℕ). numbersOf (recordsIn (take k (p .numbers)))) e
+        ∙ ap numbersOf (take-steps (p .count) (p .numbers) ∙ sym (first-steps p (p .count) n))

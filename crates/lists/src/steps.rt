@@ -1,9 +1,11 @@
 // Steps as C lends them, three numbers each, and as the decoder has them.
 use records::Plain;
+ghost use mathlib.Core.Path.{_≡_};
 ghost use Prim.Native.Nat.{_*_, _≤_};
 ghost use lib.ListN.{length};
-ghost use Rattle.records.specs.Plain.{Gathered};
-ghost use Rattle.lists.specs.Steps.{recordsIn, StepsPut};
+ghost use Rattle.meaning.specs.Reply.{writtenOver};
+ghost use Rattle.records.specs.Plain.{Gathered, stepsOf};
+ghost use Rattle.lists.specs.Steps.{recordsIn, numbersOf};
 
 // The first 33 of a caller's steps, or all where there are fewer.
 pub fn gather(steps: &[u16]) -> Plain
@@ -25,7 +27,7 @@ pub fn gather(steps: &[u16]) -> Plain
 // Writes the steps at the beginning of a caller's numbers; no number behind them changes.
 pub fn put_all(steps: &mut [u16], plain: Plain)
     requires { ⌜ (3 * plain .count ≤ length (now steps)) × (plain .count ≤ 33) ⌝ }
-    ensures { λ _. ⌜ StepsPut plain (now (steps .entry)) (now (steps .exit)) ⌝ }
+    ensures { λ _. ⌜ now (steps .exit) ≡ writtenOver (numbersOf (stepsOf plain)) (now (steps .entry)) ⌝ }
 {
     let numbers = plain.numbers;
     let end = 3 * plain.count;

@@ -1,11 +1,12 @@
--- Chains of questions: what it says that none refuses, or that one does.
+-- Chains of questions: what it says that none refuses, or that one does, and what is then written.
 use Prim.Native.Nat.{ℕ, zero, suc, _≤_}
 use native.Mathlib.Omega.{arith}
 use mathlib.Core.Path.{_≡_, refl, ap}
 use mathlib.Core.Bool.{Bool, true, false, _&&_}
 use mathlib.Core.Logic.{_↔_}
+use mathlib.Core.List.{List}
 use Rattle.meaning.specs.Questions.{_unless_, _orelse_}
-use Rattle.meaning.specs.Reply.{Reply, refused, done, reply}
+use Rattle.meaning.specs.Reply.{Reply, refused, done, reply, writtenOver, writtenIf}
 
 -- no refusal of a chain: none of its first question, and none of the rest
 pub first-passes : (k m : ℕ) → k orelse m ≡ 0 → k ≡ 0
@@ -70,3 +71,14 @@ module _ {A : Type 0} where
   pub reply-refused : (k m : ℕ) (a : A) → k ≡ suc m → reply k a ≡ refused (suc m)
   reply-refused zero m a e = absurd (omega arith)
   reply-refused (suc k) m a e = ap {B = Reply A} refused e
+
+-- ---- a lent list, after a call that writes where no question refuses
+
+module _ {A : Type 0} where
+  pub written-done : (k : ℕ) (new old : List A) → k ≡ 0 → writtenIf k new old ≡ writtenOver new old
+  written-done zero new old e = refl
+  written-done (suc k) new old e = absurd (omega arith)
+
+  pub written-refused : (k : ℕ) (new old : List A) → 1 ≤ k → writtenIf k new old ≡ old
+  written-refused zero new old h = absurd (omega arith)
+  written-refused (suc k) new old h = refl

@@ -7,8 +7,8 @@ use Rattle.meaning.specs.Direction.{isDirectionText, directionNumbers, n
 use Rattle.meaning.specs.Derivation.{tripleScore, wordsScore, isEntry, entryAt, wordsFromTo, fits, covers, jump, jumps, timesCovered, isValid, targetWords, scoreOf}
 use Rattle.meaning.specs.State.{start, wordsCovered, isEqual, isFree, cover, mayExtend, lastTwo, nextKey, gain, isBetter, keyOf}
 use Rattle.meaning.specs.Search.{fittingSteps, isWithin, entered, lastSet, answer}
-use Rattle.meaning.specs.Reply.{readBook, readBookList, readDirection, readDirectionList, checkBook, stepsRefusal, proposalRefusal, scoreProposal, beforeSearch, afterSearch, decodeRefusal, decode, decodedStore}
-use Rattle.meaning.specs.Render.{decimal, printedLine, printedAnswer, inputRefusal, renderDecode, Renders}
+use Rattle.meaning.specs.Reply.{readBook, readBookList, readDirection, readDirectionList, checkBook, stepsRefusal, proposalRefusal, scoreProposal, beforeSearch, afterSearch, decodeRefusal, decode, decodedSteps, decodedWords, decodedStore}
+use Rattle.meaning.specs.Render.{decimal, printedLine, printedAnswer, inputRefusal, renderDecode, rendered}
 
 unfoldable pub computing : Unit {0}
 unfolding
@@ -20,6 +20,6 @@ unfolding
     tripleScore wordsScore isEntry entryAt wordsFromTo fits covers jump jumps timesCovered isValid targetWords scoreOf
     start wordsCovered isEqual isFree cover mayExtend lastTwo nextKey gain isBetter keyOf
     fittingSteps isWithin entered lastSet answer
-    readBook readBookList readDirection readDirectionList checkBook stepsRefusal proposalRefusal scoreProposal beforeSearch afterSearch decodeRefusal decode decodedStore
-    decimal printedLine printedAnswer inputRefusal renderDecode Renders
+    readBook readBookList readDirection readDirectionList checkBook stepsRefusal proposalRefusal scoreProposal beforeSearch afterSearch decodeRefusal decode decodedSteps decodedWords decodedStore
+    decimal printedLine printedAnswer inputRefusal renderDecode rendered
 computing = tt

@@ -18,15 +18,16 @@ use Rattle.laws.proofs.Bounds.{within-mono}
 use Rattle.meaning.specs.Questions.{_unless_, _orelse_, within}
 use Rattle.meaning.specs.Book.{Form, InList, Book, bookOf, bookRefusal, linesRefusal, loadedLines, isWhole, isOneBFirst, isInRange, isNotTooLong, isNoTripleTwice}
 use Rattle.meaning.specs.Direction.{wordCount, isDirectionWord, directionRefusal, numbersRefusal}
-use Rattle.meaning.specs.Derivation.{IsDerivation, fits, jump, isValid, targetWords, scoreOf}
+use Rattle.meaning.specs.Derivation.{IsDerivation, fits, jump, isValid, targetWords, scoreOf, comesBefore}
 use Rattle.meaning.specs.State.{Key, Hyp, start, isFree, nextKey, scoreBound, spreadBound}
 use Rattle.meaning.specs.Search.{isOff, entered, lastSet, answer}
-use Rattle.meaning.specs.Reply.{refused, done, reply, Lent, Outcome, stepsRefusal, proposalRefusal, scoreProposal, beforeSearch, afterSearch, decodeRefusal, answerScore, searchOutcome, decode}
+use Rattle.meaning.specs.Reply.{refused, done, reply, writtenIf, Lent, stepsRefusal, proposalRefusal, scoreProposal, beforeSearch, afterSearch, decodeRefusal, answerScore, answerSteps, searchAnswer, decode, decodedSteps, decodedWords}
 use Rattle.meaning.specs.declared.Step.{Step}
+use Rattle.meaning.specs.declared.Answer.{Answer}
 use Rattle.meaning.proofs.Chains.{first-passes, rest-passes, test-passes, skip, chain-to, test-to, done-passes, done-is, refused-is, reply-refused}
 use Rattle.meaning.proofs.Valid.{proposal-valid}
 use Rattle.meaning.proofs.Ranges.{loaded-ranged}
-use Rattle.meaning.proofs.Answers.{covered-to, entered-bound, answer-last, answer-derives, answer-none, answer-best, none-valid, last-valid, valid-bound}
+use Rattle.meaning.proofs.Answers.{covered-to, entered-bound, answer-last, answer-derives, answer-none, answer-best, answer-first, answer-only, none-valid, last-valid, valid-bound}
 use Rattle.meaning.proofs.Widths.{wide-entered, wide-answer, wide-last}
 
 -- ════ the questions that come before
@@ -97,16 +98,27 @@ after-from false true true h = absurd (omega arith)
 after-from false true false h = refl
 
 -- two searches that enter the same states and have the same answer differ at most in 15 for 14
-wide-by : (before : ℕ) (fits₁ fits₂ empty₁ empty₂ : Bool) (o₁ o₂ : Outcome) → (before ≡ 0 → (fits₁ ≡ fits₂) × (empty₁ ≡ empty₂) × (o₁ ≡ o₂))
+wide-by : (before : ℕ) (fits₁ fits₂ empty₁ empty₂ : Bool) (o₁ o₂ : Answer) → (before ≡ 0 → (fits₁ ≡ fits₂) × (empty₁ ≡ empty₂) × (o₁ ≡ o₂))
     → (reply (before orelse after false fits₁ empty₁) o₁ ≡ reply (before orelse after true fits₂ empty₂) o₂)
     ⊎ ((reply (before orelse after false fits₁ empty₁) o₁ ≡ refused 15) × (reply (before orelse after true fits₂ empty₂) o₂ ≡ refused 14))
 wide-by (suc k) fits₁ fits₂ empty₁ empty₂ o₁ o₂ same = inl refl
 wide-by zero fits₁ fits₂ empty₁ empty₂ o₁ o₂ same = let e = same refl in rw (e .0, e .1, e .2) (compare fits₂ empty₂ o₂)
   where
-    compare : (s m : Bool) (o : Outcome) → (reply (after false s m) o ≡ reply (after true s m) o) ⊎ ((reply (after false s m) o ≡ refused 15) × (reply (after true s m) o ≡ refused 14))
+    compare : (s m : Bool) (o : Answer) → (reply (after false s m) o ≡ reply (after true s m) o) ⊎ ((reply (after false s m) o ≡ refused 15) × (reply (after true s m) o ≡ refused 14))
     compare true true o = inr (refl, refl)
     compare true false o = inl refl
     compare false m o = inl refl
+
+-- and write the same over a list
+wide-written : {A : Type 0} (before : ℕ) (fits₁ fits₂ empty₁ empty₂ : Bool) (new₁ new₂ old : List A) → (before ≡ 0 → (fits₁ ≡ fits₂) × (empty₁ ≡ empty₂) × (new₁ ≡ new₂))
+    → writtenIf (before orelse after false fits₁ empty₁) new₁ old ≡ writtenIf (before orelse after true fits₂ empty₂) new₂ old
+wide-written (suc k) fits₁ fits₂ empty₁ empty₂ new₁ new₂ old same = refl
+wide-written zero fits₁ fits₂ empty₁ empty₂ new₁ new₂ old same = let e = same refl in rw (e .0, e .1, e .2) (compare fits₂ empty₂)
+  where
+    compare : (s m : Bool) → writtenIf (after false s m) new₂ old ≡ writtenIf (after true s m) new₂ old
+    compare true true = refl
+    compare true false = refl
+    compare false m = refl
 
 module _ (loaded : List ℤ) (direction : List ℕ) where
   abbrev book : Book
@@ -170,7 +182,7 @@ module _ (loaded : List ℤ) (direction : List ℕ) where
 
   module _ (width : ℤ) (lent : Lent) where
     -- what holds where an answer is given
-    pub record Answered (a : Outcome) : Type 0 where
+    pub record Answered (a : Answer) : Type 0 where
       pub before : beforeSearch loaded direction width lent ≡ 0
       pub room : length (entered book direction width) ≤ lent .store / 8
       pub state : Hyp
@@ -194,14 +206,14 @@ module _ (loaded : List ℤ) (direction : List ℕ) where
     not-both [] e z = true≢false e
     not-both (x ∷ l) e z = let y : isEmpty (x ∷ l) ≡ true = ap isEmpty z in false≢true y
 
-    pub answered : (a : Outcome) → decode loaded direction width lent ≡ done a → Answered a
+    pub answered : (a : Answer) → decode loaded direction width lent ≡ done a → Answered a
     unfolding decode decodeRefusal afterSearch
     answered a e =
         let k = decodeRefusal loaded direction width lent in
         let p : decodeRefusal loaded direction width lent ≡ 0 = done-passes k _ a e in
         let b = first-passes (beforeSearch loaded direction width lent) _ p in
         let s = rest-passes (beforeSearch loaded direction width lent) _ p in
-        let is : record { score = answerScore (answer book direction width); states = length (entered book direction width) } ≡ a = done-is k _ a e in
+        let is : searchAnswer book direction width ≡ a = done-is k _ a e in
         let r : length (entered book direction width) ≤ lent .store / 8 = leb-true _ _ (test-passes 12 _ (first-passes (13 unless leb (length (entered book direction width)) (lent .store / 8)) _ s)) in
         ⊎-elim
         (λ z. absurd (not-both (lastSet book direction width) (reached s) (answer-none book direction width .0 z)))
@@ -210,37 +222,53 @@ module _ (loaded : List ℤ) (direction : List ℕ) where
           room = r;
           state = t .0;
           found = t .1;
-          score-is = ap (λ (o : Outcome). o .score) (sym is) ∙ ap answerScore (t .1);
-          states-are = ap (λ (o : Outcome). o .states) (sym is);
+          score-is = ap (λ (x : Answer). x .score) (sym is) ∙ ap answerScore (t .1);
+          states-are = ap (λ (x : Answer). x .states) (sym is);
         })
         (some-or-none (answer book direction width))
 
-    -- "valid, exact": some valid derivation has the score reported
-    pub decode-derives : (a : Outcome) → decode loaded direction width lent ≡ done a
-        → (steps : List Step) × IsDerivation book direction (a .score) steps (targetWords book steps)
+    -- "valid, exact": the answer's steps are a valid derivation of the score reported
+    pub decode-derives : (a : Answer) → decode loaded direction width lent ≡ done a
+        → IsDerivation book direction (a .score) (answerSteps (answer book direction width)) (targetWords book (answerSteps (answer book direction width)))
     decode-derives a e =
         let r = answered a e in
-        (r .state .steps, subst (λ (z : ℤ). IsDerivation book direction z (r .state .steps) (targetWords book (r .state .steps))) (sym (r .score-is)) (answer-derives book direction width (r .state) (r .found)))
+        subst (λ (o : Option Hyp). IsDerivation book direction (a .score) (answerSteps o) (targetWords book (answerSteps o))) (sym (r .found))
+        (subst (λ (z : ℤ). IsDerivation book direction z (r .state .steps) (targetWords book (r .state .steps))) (sym (r .score-is)) (answer-derives book direction width (r .state) (r .found)))
+
+    -- their numbers are reported
+    pub decode-counts : (a : Answer) → decode loaded direction width lent ≡ done a
+        → (a .steps ≡ length (answerSteps (answer book direction width))) × (a .words ≡ length (targetWords book (answerSteps (answer book direction width))))
+    unfolding decode
+    decode-counts a e =
+        let is : searchAnswer book direction width ≡ a = done-is (decodeRefusal loaded direction width lent) _ a e in
+        (ap (λ (x : Answer). x .steps) (sym is), ap (λ (x : Answer). x .words) (sym is))
 
     -- "and the best of the last set": no state of it has a higher score
-    pub decode-last : (a : Outcome) → decode loaded direction width lent ≡ done a → (q : Hyp) → List·Memᴰ q (lastSet book direction width) → q .score ≤ℤ a .score
+    pub decode-last : (a : Answer) → decode loaded direction width lent ≡ done a → (q : Hyp) → List·Memᴰ q (lastSet book direction width) → q .score ≤ℤ a .score
     decode-last a e q m =
         let r = answered a e in
         subst (λ (z : ℤ). q .score ≤ℤ z) (sym (r .score-is)) (answer-last book direction width (r .state) (r .found) .none-higher q m)
 
+    -- and none of that score comes before the answer's steps, with any width
+    pub decode-last-first : (a : Answer) → decode loaded direction width lent ≡ done a → (q : Hyp) → List·Memᴰ q (lastSet book direction width) → q .score ≡ a .score
+        → comesBefore (q .steps) (answerSteps (answer book direction width)) ≡ false
+    decode-last-first a e q m s =
+        let r = answered a e in
+        ap (λ (o : Option Hyp). comesBefore (q .steps) (answerSteps o)) (r .found) ∙ answer-last book direction width (r .state) (r .found) .none-earlier q m (s ∙ r .score-is)
+
     -- the number of states is that of the states entered
-    pub decode-states : (a : Outcome) → decode loaded direction width lent ≡ done a → a .states ≡ length (entered book direction width)
+    pub decode-states : (a : Answer) → decode loaded direction width lent ≡ done a → a .states ≡ length (entered book direction width)
     decode-states a e = answered a e .states-are
 
     -- "No score passes .. 298,240,000 on either side of 0."
-    pub decode-bound : (a : Outcome) → decode loaded direction width lent ≡ done a → Within scoreBound (a .score)
+    pub decode-bound : (a : Answer) → decode loaded direction width lent ≡ done a → Within scoreBound (a .score)
     unfolding beforeSearch
     decode-bound a e =
         let r = answered a e in
         let d = decode-derives a e in
         let b = first-passes (bookRefusal loaded) _ (r .before) in
         let n = first-passes (directionRefusal direction) _ (rest-passes (bookRefusal loaded) _ (r .before)) in
-        subst (Within scoreBound) (d .1 .steps-score) (derivation-bound b n width (d .0) (d .1 .steps-valid))
+        subst (Within scoreBound) (d .steps-score) (derivation-bound b n width _ (d .steps-valid))
 
     -- "13 only when the store is too small for the states entered", and always then
     pub decode-full : beforeSearch loaded direction width lent ≡ 0 → (decode loaded direction width lent ≡ refused 13) ↔ (lent .store / 8 < length (entered book direction width))
@@ -294,11 +322,11 @@ module _ (loaded : List ℤ) (direction : List ℕ) where
 
     -- where the store holds the states entered, there is an answer, or 14, or with a width 15
     pub answer-or-none : beforeSearch loaded direction width lent ≡ 0 → length (entered book direction width) ≤ lent .store / 8
-        → ((a : Outcome) × (decode loaded direction width lent ≡ done a)) ⊎ (decode loaded direction width lent ≡ refused (cond (isOff width) 14 15))
+        → ((a : Answer) × (decode loaded direction width lent ≡ done a)) ⊎ (decode loaded direction width lent ≡ refused (cond (isOff width) 14 15))
     unfolding decode decodeRefusal afterSearch
     answer-or-none b h = rw (b, le-leb _ _ h) (by (isOff width) (isEmpty (lastSet book direction width)) _)
       where
-        by : (o m : Bool) (a : Outcome) → ((a′ : Outcome) × (reply (14 unless (not o || not m) orelse 15 unless not m) a ≡ done a′)) ⊎ (reply (14 unless (not o || not m) orelse 15 unless not m) a ≡ refused (cond o 14 15))
+        by : (o m : Bool) (a : Answer) → ((a′ : Answer) × (reply (14 unless (not o || not m) orelse 15 unless not m) a ≡ done a′)) ⊎ (reply (14 unless (not o || not m) orelse 15 unless not m) a ≡ refused (cond o 14 15))
         by true true a = inr refl
         by false true a = inr refl
         by true false a = inl (a, refl)
@@ -321,10 +349,24 @@ module _ (loaded : List ℤ) (direction : List ℕ) where
 
   module _ (lent : Lent) where
     -- "no valid derivation scores higher", of however many steps
-    pub decode-best : (a : Outcome) → decode loaded direction (negsuc 0) lent ≡ done a → (steps : List Step) → isValid book direction steps ≡ true → scoreOf book steps ≤ℤ a .score
+    pub decode-best : (a : Answer) → decode loaded direction (negsuc 0) lent ≡ done a → (steps : List Step) → isValid book direction steps ≡ true → scoreOf book steps ≤ℤ a .score
     decode-best a e steps v =
         let r = answered (negsuc 0) lent a e in
         subst (λ (z : ℤ). scoreOf book steps ≤ℤ z) (sym (r .score-is)) (answer-best book direction (r .state) (r .found) steps v)
+
+    -- "no valid derivation of that score comes earlier" than the answer's steps
+    pub decode-first : (a : Answer) → decode loaded direction (negsuc 0) lent ≡ done a → (steps : List Step) → isValid book direction steps ≡ true → scoreOf book steps ≡ a .score
+        → comesBefore steps (answerSteps (answer book direction (negsuc 0))) ≡ false
+    decode-first a e steps v s =
+        let r = answered (negsuc 0) lent a e in
+        ap (λ (o : Option Hyp). comesBefore steps (answerSteps o)) (r .found) ∙ answer-first book direction (r .state) (r .found) steps v (s ∙ r .score-is)
+
+    -- and each other valid derivation of that score comes later
+    pub decode-only : (a : Answer) → decode loaded direction (negsuc 0) lent ≡ done a → (steps : List Step) → isValid book direction steps ≡ true → scoreOf book steps ≡ a .score
+        → (answerSteps (answer book direction (negsuc 0)) ≡ steps) ⊎ (comesBefore (answerSteps (answer book direction (negsuc 0))) steps ≡ true)
+    decode-only a e steps v s =
+        let r = answered (negsuc 0) lent a e in
+        subst (λ (o : Option Hyp). (answerSteps o ≡ steps) ⊎ (comesBefore (answerSteps o) steps ≡ true)) (sym (r .found)) (answer-only book direction (r .state) (r .found) steps v (s ∙ r .score-is))
 
     empty-is : (l : List Hyp) → isEmpty l ≡ true → l ≡ []
     empty-is [] e = refl
@@ -374,20 +416,53 @@ module _ (loaded : List ℤ) (direction : List ℕ) where
       two false m h = omega arith
 
   -- "a width of 596,480,000, which, but for 15 in place of 14, answers as −1 does": it, and every larger one
-  pub wide-width : (β : ℕ) (lent : Lent) → spreadBound ≤ β
-      → (decode loaded direction (pos β) lent ≡ decode loaded direction (negsuc 0) lent)
-      ⊎ ((decode loaded direction (pos β) lent ≡ refused 15) × (decode loaded direction (negsuc 0) lent ≡ refused 14))
-  unfolding decode decodeRefusal beforeSearch afterSearch
-  wide-width β lent wide =
-      wide-by (beforeSearch loaded direction (negsuc 0) lent)
-      (leb (length (entered book direction (pos β))) (lent .store / 8)) (leb (length (entered book direction (negsuc 0))) (lent .store / 8))
-      (isEmpty (lastSet book direction (pos β))) (isEmpty (lastSet book direction (negsuc 0)))
-      (searchOutcome book direction (pos β)) (searchOutcome book direction (negsuc 0))
-      (λ b.
-      let R = loaded-ranged loaded (first-passes (bookRefusal loaded) _ b) in
-      let n = direction-to direction (first-passes (directionRefusal direction) _ (rest-passes (bookRefusal loaded) _ b)) in
-      let same : entered book direction (pos β) ≡ entered book direction (negsuc 0) = wide-entered book direction R n β wide in (
-        ap (λ (l : List Hyp). leb (length l) (lent .store / 8)) same,
-        ap isEmpty (wide-last book direction R n β wide),
-        λ i. record { score = answerScore (wide-answer book direction R n β wide i); states = length (same i) },
-      ))
+  module _ (β : ℕ) (lent : Lent) (wide : spreadBound ≤ β) where
+    -- the search arrives at the same, once the questions before it pass
+    wide-same : beforeSearch loaded direction (negsuc 0) lent ≡ 0
+        → (entered book direction (pos β) ≡ entered book direction (negsuc 0)) × (lastSet book direction (pos β) ≡ lastSet book direction (negsuc 0)) × (answer book direction (pos β) ≡ answer book direction (negsuc 0))
+    unfolding beforeSearch
+    wide-same b =
+        let R = loaded-ranged loaded (first-passes (bookRefusal loaded) _ b) in
+        let n = direction-to direction (first-passes (directionRefusal direction) _ (rest-passes (bookRefusal loaded) _ b)) in
+        (wide-entered book direction R n β wide, wide-last book direction R n β wide, wide-answer book direction R n β wide)
+
+    abbrev fits-in : List Hyp → Bool
+    fits-in states = leb (length states) (lent .store / 8)
+
+    pub wide-width : (decode loaded direction (pos β) lent ≡ decode loaded direction (negsuc 0) lent)
+        ⊎ ((decode loaded direction (pos β) lent ≡ refused 15) × (decode loaded direction (negsuc 0) lent ≡ refused 14))
+    unfolding decode decodeRefusal beforeSearch afterSearch
+    wide-width =
+        wide-by (beforeSearch loaded direction (negsuc 0) lent) (fits-in (entered book direction (pos β))) (fits-in (entered book direction (negsuc 0)))
+        (isEmpty (lastSet book direction (pos β))) (isEmpty (lastSet book direction (negsuc 0)))
+        (searchAnswer book direction (pos β)) (searchAnswer book direction (negsuc 0))
+        (λ b.
+        let same = wide-same b in (
+          ap fits-in (same .0),
+          ap isEmpty (same .1),
+          λ i. record {
+            score = answerScore (same .2 i);
+            steps = length (answerSteps (same .2 i));
+            words = length (targetWords book (answerSteps (same .2 i)));
+            states = length (same .0 i);
+          },
+        ))
+
+    -- and what it writes is the same
+    wide-lists : {A : Type 0} (f : Option Hyp → List A) (old : List A)
+        → writtenIf (decodeRefusal loaded direction (pos β) lent) (f (answer book direction (pos β))) old
+        ≡ writtenIf (decodeRefusal loaded direction (negsuc 0) lent) (f (answer book direction (negsuc 0))) old
+    unfolding decodeRefusal beforeSearch afterSearch
+    wide-lists f old =
+        wide-written (beforeSearch loaded direction (negsuc 0) lent) (fits-in (entered book direction (pos β))) (fits-in (entered book direction (negsuc 0)))
+        (isEmpty (lastSet book direction (pos β))) (isEmpty (lastSet book direction (negsuc 0)))
+        (f (answer book direction (pos β))) (f (answer book direction (negsuc 0))) old
+        (λ b. let same = wide-same b in (ap fits-in (same .0), ap isEmpty (same .1), ap f (same .2)))
+
+    pub wide-steps : (steps : List Step) → decodedSteps loaded direction (pos β) lent steps ≡ decodedSteps loaded direction (negsuc 0) lent steps
+    unfolding decodedSteps
+    wide-steps steps = wide-lists answerSteps steps
+
+    pub wide-words : (words : List ℕ) → decodedWords loaded direction (pos β) lent words ≡ decodedWords loaded direction (negsuc 0) lent words
+    unfolding decodedWords
+    wide-words words = wide-lists (λ o. targetWords book (answerSteps o)) words

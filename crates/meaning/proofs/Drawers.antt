@@ -1,26 +1,27 @@
--- The twelve inputs that document 01 marks to be proved (its "marked drawers"), its printed example, and four inputs beyond
--- the twelve, each computed from the definitions.
-use Prim.Native.Nat.{ℕ, _*_}
+-- The twelve inputs that document 01 marks to be proved (its "marked drawers"), two of them with all that is handed back, its
+-- printed example, and four inputs beyond the twelve, each computed from the definitions.
+use Prim.Native.Nat.{ℕ, _*_, _≤_}
 use Prim.Native.String.{String, [] as emptyText, _∷_ as _then_}
 use Prim.Native.Char.{code}
-use mathlib.Core.Path.{_≡_, refl}
+use native.Mathlib.Omega.{arith}
+use mathlib.Core.Path.{_≡_, refl, _∙_}
 use mathlib.Core.Bool.{Bool, true, false, _&&_}
 use mathlib.Core.List.{List, [], _∷_, _++_}
-use mathlib.Core.Option.{Option, none, some}
 use lib.Dec.{eqb}
 use lib.IntN.{ℤ, pos, negℤ}
 use lib.ListN.{set}
 use Rattle.laws.specs.Integers.{eqℤ}
 use Rattle.laws.specs.Lists.{all, eqList}
 use Rattle.meaning.specs.Book.{loadedOf, bookOf}
-use Rattle.meaning.specs.Direction.{wordCount, directionOf}
-use Rattle.meaning.specs.Derivation.{IsDerivation, isValid, scoreOf}
-use Rattle.meaning.specs.State.{Hyp}
+use Rattle.meaning.specs.Direction.{wordCount}
+use Rattle.meaning.specs.Derivation.{isValid, targetWords, scoreOf}
 use Rattle.meaning.specs.Search.{answer}
-use Rattle.meaning.specs.Reply.{Reply, refused, done, Lent, Outcome, decode, scoreProposal}
-use Rattle.meaning.specs.Render.{printedAnswer, inputRefusal, renderDecode, Renders}
+use Rattle.meaning.specs.Reply.{Reply, refused, done, Lent, answerSteps, decode, scoreProposal}
+use Rattle.meaning.specs.Render.{rendered}
 use Rattle.meaning.specs.declared.Step.{Step}
+use Rattle.meaning.specs.declared.Answer.{Answer}
 use Rattle.meaning.proofs.Computing.{computing}
+use Rattle.meaning.proofs.Rooms.{decode-room}
 
 -- ════ the inputs
 
@@ -88,7 +89,7 @@ row letter input says = record { letter = letter; input = input; says = says }
 abbrev pub eqStep : Step → Step → Bool
 eqStep p q = eqb (p .first) (q .first) && eqb (p .last) (q .last) && eqb (p .entry) (q .entry)
 
-abbrev pub answeredAs : Outcome → List Step → Says → Bool
+abbrev pub answeredAs : Answer → List Step → Says → Bool
 answeredAs a steps (refuses k) = false
 answeredAs a steps (scores z) = eqℤ (a .score) z
 answeredAs a steps (scoresStates z n) = eqℤ (a .score) z && eqb (a .states) n
@@ -100,20 +101,15 @@ refusedAs k (scores z) = false
 refusedAs k (scoresStates z n) = false
 refusedAs k (scoresSteps z want) = false
 
--- the steps that the search itself arrives at
-abbrev pub answerSteps : Option Hyp → List Step
-answerSteps none = []
-answerSteps (some q) = q .steps
-
 -- an answer's steps are also held to be a valid derivation of its score
-abbrev pub decodedAs : List ℤ → List ℕ → List Step → Reply Outcome → Says → Bool
+abbrev pub decodedAs : List ℤ → List ℕ → List Step → Reply Answer → Says → Bool
 decodedAs loaded words steps (refused k) says = refusedAs k says
 decodedAs loaded words steps (done a) says =
     answeredAs a steps says && isValid (bookOf loaded) words steps && eqℤ (scoreOf (bookOf loaded) steps) (a .score)
 
 abbrev pub scoredAs : Reply ℤ → Says → Bool
 scoredAs (refused k) says = refusedAs k says
-scoredAs (done z) says = answeredAs (record { score = z; states = 0 }) [] says
+scoredAs (done z) says = answeredAs (record { score = z; steps = 0; words = 0; states = 0 }) [] says
 
 -- lists long enough for these words, and a store of this many states
 abbrev pub lent : List ℕ → ℕ → Lent
@@ -149,27 +145,53 @@ pub drawers-agree : all agrees drawers ≡ true
 unfolding computing drawers bytes bookText book short
 drawers-agree = refl
 
+-- ════ drawers d and e, into lists of n and 8 × n places or more, and a store of 512 states
+
+abbrev pub Decoding : List ℤ → ℕ → ℕ → Answer → Type 0
+Decoding loaded steps words a = decode loaded direction off (record { steps = steps; words = words; store = 8 * 512 }) ≡ done a
+
+room : (loaded : List ℤ) (steps words : ℕ) (a : Answer) → 2 ≤ steps → 16 ≤ words → Decoding loaded 2 16 a → Decoding loaded steps words a
+unfolding wordCount
+room loaded steps words a h g e = decode-room loaded direction off steps words 2 16 (8 * 512) (λ _. (h, g)) (λ _. (omega arith, omega arith)) ∙ e
+
+-- the steps and the target words that the search arrives at
+abbrev pub Found : List ℤ → List Step → List ℕ → Type 0
+Found loaded steps words =
+    (answerSteps (answer (bookOf loaded) direction off) ≡ steps) × (targetWords (bookOf loaded) (answerSteps (answer (bookOf loaded) direction off)) ≡ words)
+
+abbrev pub answerD : Answer
+answerD = record { score = minus 120; steps = 2; words = 2; states = 5 }
+
+shortest-d : Decoding (short 2) 2 16 answerD
+unfolding computing bytes short
+shortest-d = refl
+
+pub decode-d : (steps words : ℕ) → 2 ≤ steps → 16 ≤ words → Decoding (short 2) steps words answerD
+decode-d steps words h g = room (short 2) steps words _ h g shortest-d
+
+pub found-d : Found (short 2) (step 2 2 2 ∷ step 1 1 1 ∷ []) (102 ∷ 101 ∷ [])
+unfolding computing bytes short
+found-d = (refl, refl)
+
+abbrev pub answerE : Answer
+answerE = record { score = minus 150; steps = 2; words = 2; states = 4 }
+
+shortest-e : Decoding (short 1) 2 16 answerE
+unfolding computing bytes short
+shortest-e = refl
+
+pub decode-e : (steps words : ℕ) → 2 ≤ steps → 16 ≤ words → Decoding (short 1) steps words answerE
+decode-e steps words h g = room (short 1) steps words _ h g shortest-e
+
+pub found-e : Found (short 1) (step 1 1 1 ∷ step 2 2 2 ∷ []) (101 ∷ 102 ∷ [])
+unfolding computing bytes short
+found-e = (refl, refl)
+
 -- ════ the printed example, from the two texts
 
-input-passes : inputRefusal bookText (bytes "11,12\n") ≡ 0
+pub example-prints : rendered bookText (bytes "11,12\n") ≡ bytes "A,-110,1,2,6\nS,1,2,3\nW,102,101\n"
 unfolding computing bytes bookText
-input-passes = refl
-
-input-decodes : renderDecode bookText (bytes "11,12\n") ≡ done (record { score = minus 110; states = 6 })
-unfolding computing bytes bookText
-input-decodes = refl
-
-input-derives : IsDerivation (bookOf (loadedOf bookText)) (directionOf (bytes "11,12\n")) (minus 110) (step 1 2 3 ∷ []) (102 ∷ 101 ∷ [])
-unfolding computing bytes bookText
-input-derives = record { steps-valid = refl; steps-score = refl; steps-words = refl }
-
-answer-prints : bytes "A,-110,1,2,6\nS,1,2,3\nW,102,101\n" ≡ printedAnswer (record { score = minus 110; states = 6 }) (step 1 2 3 ∷ []) (102 ∷ 101 ∷ [])
-unfolding computing bytes
-answer-prints = refl
-
-pub example-prints : Renders bookText (bytes "11,12\n") (bytes "A,-110,1,2,6\nS,1,2,3\nW,102,101\n")
-unfolding Renders
-example-prints = rw (input-passes, input-decodes) (step 1 2 3 ∷ [], 102 ∷ 101 ∷ [], input-derives, answer-prints)
+example-prints = refl
 
 -- ════ beyond the twelve
 

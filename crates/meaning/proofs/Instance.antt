@@ -16,10 +16,10 @@ use Rattle.laws.proofs.Bounds.{within-mono}
 use Rattle.search_theory.specs.Search.{St}
 use Rattle.search_theory.specs.Statements.{after, Allowed, Legal, Steady, Ranked, Unpruned}
 use Rattle.search_theory.proofs.Bounds.{score-small}
-use Rattle.search_theory.proofs.ByScore as ByScore
+use Rattle.search_theory.proofs.Lexical as Lexical
 use Rattle.meaning.specs.Book.{Book}
 use Rattle.meaning.specs.Direction.{wordCount}
-use Rattle.meaning.specs.Derivation.{fits, jump, isValid}
+use Rattle.meaning.specs.Derivation.{fits, jump, isValid, stepBefore}
 use Rattle.meaning.specs.State.{Key, start, wordsCovered, eqBit, isEqual, isFree, cover, mayExtend, nextKey, isBetter, gainBound}
 use Rattle.meaning.specs.Search.{isWithin, search}
 use Rattle.meaning.specs.declared.Step.{Step}
@@ -28,6 +28,7 @@ use Rattle.meaning.proofs.Cover.{cover-length, cover-adds, all-ones}
 use Rattle.meaning.proofs.Valid.{stepsPass, valid-passes}
 use Rattle.meaning.proofs.Ranges.{Ranged}
 use Rattle.meaning.proofs.Bounds.{gain-within}
+use Rattle.meaning.proofs.Order.{step-weak, step-total}
 
 -- ════ equality of keys is equality
 
@@ -111,7 +112,7 @@ module _ (book : Book) (direction : List ℕ) (width : ℤ) where
 
   pub ranked : Ranked (search book direction width)
   unfolding isBetter
-  ranked = ByScore.ranked (search book direction width) (λ _ _. refl)
+  ranked = Lexical.ranked (search book direction width) steady stepBefore step-weak step-total (λ _ _. refl)
 
   -- ════ the sequences that the search follows to the last set are the valid derivations
 

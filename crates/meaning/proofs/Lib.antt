@@ -5,6 +5,7 @@ pub mod Chains
 pub mod Filled
 pub mod Valid
 pub mod Scores
+pub mod Order
 pub mod Steps
 pub mod Cover
 pub mod Ranges
@@ -18,5 +19,4 @@ pub mod Widths
 pub mod Demands
 pub mod Reach
 pub mod Rooms
-pub mod Only
 pub mod Numbered

@@ -12,8 +12,7 @@ use Rattle.laws.proofs.Tests.{both-of}
 use Rattle.meaning.specs.Questions.{_unless_, _orelse_}
 use Rattle.meaning.specs.Book.{InText, bookRefusal, bookOf, isBookText, textLines, linesRefusal, loadedOf, readRefusal}
 use Rattle.meaning.specs.Direction.{wordCount, isDirectionText, directionNumbers, numbersRefusal, directionRefusal, readDirectionRefusal}
-use Rattle.meaning.specs.Search.{entered, answer}
-use Rattle.meaning.specs.Reply.{reply, Lent, beforeSearch, afterSearch, decodeRefusal, answerScore, decode}
+use Rattle.meaning.specs.Reply.{reply, Lent, beforeSearch, afterSearch, decodeRefusal, searchAnswer, decode}
 use Rattle.meaning.proofs.Chains.{test-passes}
 
 -- the rest of a chain is asked only where its first question passes
@@ -68,4 +67,4 @@ module _ (loaded : List ℤ) (direction : List ℕ) (width : ℤ) (s w s′ w′
   pub decode-room : decode loaded direction width lent ≡ decode loaded direction width lent′
   unfolding decode decodeRefusal afterSearch
   decode-room =
-      ap (λ (k : ℕ). reply (k orelse afterSearch (bookOf loaded) direction width lent) (record { score = answerScore (answer (bookOf loaded) direction width); states = length (entered (bookOf loaded) direction width) })) before-room
+      ap (λ (k : ℕ). reply (k orelse afterSearch (bookOf loaded) direction width lent) (searchAnswer (bookOf loaded) direction width)) before-room

@@ -3,11 +3,12 @@ use Prim.Native.Nat.{ℕ, suc, _+_, _-_}
 use mathlib.Core.Path.{_≡_}
 use mathlib.Core.Bool.{Bool, true, _&&_, cond}
 use mathlib.Core.List.{List, [], _∷_, map}
-use lib.Dec.{eqb, leb}
+use lib.Dec.{eqb, leb, ltb}
 use lib.IntN.{ℤ, pos, _+ℤ_, _*ℤ_}
 use lib.ListN.{length, getD}
 use lib.Seq.{slice}
 use Rattle.laws.specs.Lists.{all, count, eqList, concat, oneTo, sumℤ}
+use Rattle.search_theory.specs.Orders.{before}
 use Rattle.meaning.specs.Questions.{within}
 use Rattle.meaning.specs.Book.{Book, Entry, Triple}
 use Rattle.meaning.specs.Direction.{wordCount}
@@ -105,3 +106,14 @@ pub record IsDerivation (book : Book) (direction : List ℕ) (score : ℤ) (step
   pub steps-valid : isValid book direction steps ≡ true
   pub steps-score : scoreOf book steps ≡ score
   pub steps-words : targetWords book steps ≡ words
+
+-- ════ the order of derivations: "compare step by step by first, then last, then entry". The first difference decides (search_theory/specs/Orders)
+
+abbrev pub orderNumbers : Step → List ℕ
+orderNumbers step = step .first ∷ step .last ∷ step .entry ∷ []
+
+unfoldable pub stepBefore : Step → Step → Bool
+stepBefore a b = before ltb (orderNumbers a) (orderNumbers b)
+
+unfoldable pub comesBefore : List Step → List Step → Bool
+comesBefore a b = before stepBefore a b

@@ -1,6 +1,5 @@
 -- What the rendering program prints: the bytes of `book.txt` and of standard input to the bytes of standard output.
 use Prim.Native.Nat.{ℕ, zero, suc, _+_, _*_, _/_, _%_}
-use mathlib.Core.Path.{_≡_}
 use mathlib.Core.Bool.{true, false, _&&_}
 use mathlib.Core.List.{List, [], _∷_, _++_, map}
 use lib.Dec.{leb, ltb}
@@ -9,11 +8,13 @@ use lib.ListN.{length}
 use Rattle.laws.specs.Lists.{concat}
 use Rattle.meaning.specs.Questions.{_unless_, _orelse_}
 use Rattle.meaning.specs.Numerals.{newline, comma, minus}
-use Rattle.meaning.specs.Book.{Book, loadedOf, bookOf, readRefusal}
+use Rattle.meaning.specs.Book.{loadedOf, bookOf, readRefusal}
 use Rattle.meaning.specs.Direction.{wordCount, directionOf, readDirectionRefusal}
-use Rattle.meaning.specs.Derivation.{IsDerivation}
-use Rattle.meaning.specs.Reply.{Reply, refused, done, Outcome, answerOf, countsOf, decode}
+use Rattle.meaning.specs.Derivation.{targetWords}
+use Rattle.meaning.specs.Search.{answer}
+use Rattle.meaning.specs.Reply.{Reply, refused, done, countsOf, answerSteps, decode}
 use Rattle.meaning.specs.declared.Step.{Step}
+use Rattle.meaning.specs.declared.Answer.{Answer}
 
 -- ════ printed numbers and lines
 
@@ -42,11 +43,15 @@ abbrev pub printedRefusal : ℕ → List ℕ
 printedRefusal k = printedLine 82 (pos k ∷ [])
 
 -- "A: score, steps, words, states; S: first, last, entry; W: the target words"
-unfoldable pub printedAnswer : Outcome → List Step → List ℕ → List ℕ
+unfoldable pub printedAnswer : Answer → List Step → List ℕ → List ℕ
 printedAnswer a steps words =
-    printedLine 65 (countsOf (answerOf a (length steps) (length words)))
+    printedLine 65 (countsOf a)
     ++ concat (map printedStep steps)
     ++ printedLine 87 (map pos words)
+
+abbrev pub printedReply : Reply Answer → List Step → List ℕ → List ℕ
+printedReply (refused k) steps words = printedRefusal k
+printedReply (done a) steps words = printedAnswer a steps words
 
 -- ════ the program
 
@@ -59,22 +64,21 @@ inputRefusal bookText directionText =
     orelse readDirectionRefusal directionText (length (directionOf directionText))
 
 -- "decodes with pruning off, a store of 512 states and every other list long enough"
-unfoldable pub renderDecode : List ℕ → List ℕ → Reply Outcome
+unfoldable pub renderDecode : List ℕ → List ℕ → Reply Answer
 renderDecode bookText directionText =
     decode (loadedOf bookText) (directionOf directionText) (negsuc 0)
     (record { steps = wordCount (directionOf directionText); words = 8 * wordCount (directionOf directionText); store = 8 * 512 })
 
--- the output `out` is that of a refusal, or that of an answer with some derivation of its score: which one is free, as in decoding
-abbrev pub PrintsReply : Book → List ℕ → Reply Outcome → List ℕ → Type 0
-PrintsReply book direction (refused k) out = out ≡ printedRefusal k
-PrintsReply book direction (done a) out =
-    (steps : List Step) × (words : List ℕ) × IsDerivation book direction (a .score) steps words × (out ≡ printedAnswer a steps words)
+-- what is printed of a decode's reply: "its steps, its target words" are those of the search with pruning off
+abbrev pub printedDecode : List ℤ → List ℕ → Reply Answer → List ℕ
+printedDecode loaded direction reply =
+    printedReply reply (answerSteps (answer (bookOf loaded) direction (negsuc 0)))
+    (targetWords (bookOf loaded) (answerSteps (answer (bookOf loaded) direction (negsuc 0))))
 
-abbrev pub PrintsAfter : ℕ → List ℕ → List ℕ → List ℕ → Type 0
-PrintsAfter zero bookText directionText out =
-    PrintsReply (bookOf (loadedOf bookText)) (directionOf directionText) (renderDecode bookText directionText) out
-PrintsAfter (suc k) bookText directionText out = out ≡ printedRefusal (suc k)
+abbrev pub renderedAfter : ℕ → List ℕ → List ℕ → List ℕ
+renderedAfter zero bookText directionText = printedDecode (loadedOf bookText) (directionOf directionText) (renderDecode bookText directionText)
+renderedAfter (suc k) bookText directionText = printedRefusal (suc k)
 
 -- what the program writes
-unfoldable pub Renders : List ℕ → List ℕ → List ℕ → Type 0
-Renders bookText directionText out = PrintsAfter (inputRefusal bookText directionText) bookText directionText out
+unfoldable pub rendered : List ℕ → List ℕ → List ℕ
+rendered bookText directionText = renderedAfter (inputRefusal bookText directionText) bookText directionText

@@ -12,7 +12,7 @@ use Rattle.laws.specs.Lists.{all, isEmpty}
 use Rattle.meaning.specs.Questions.{_unless_, _orelse_, number}
 use Rattle.meaning.specs.Book.{Book, bookRefusal, bookOf, readRefusal, loadedOf}
 use Rattle.meaning.specs.Direction.{wordCount, directionRefusal, readDirectionRefusal, directionOf}
-use Rattle.meaning.specs.Derivation.{IsDerivation, fits, jump, scoreOf}
+use Rattle.meaning.specs.Derivation.{fits, jump, targetWords, scoreOf}
 use Rattle.meaning.specs.State.{Key, Hyp, start, nextKey, isFree}
 use Rattle.meaning.specs.Search.{isOff, entered, lastSet, answer}
 use Rattle.meaning.specs.declared.Step.{Step}
@@ -114,25 +114,12 @@ scoreProposal loaded direction steps = reply (proposalRefusal loaded direction s
 
 -- ════ decoding
 
--- what is determined of a successful decode: "a highest score in set n" and "the number of different states entered in all sets"
-pub record Outcome : Type 0 where
-  pub score : ℤ
-  pub states : ℕ
-
--- what is determined of an answer
-abbrev pub outcomeOf : Answer → Outcome
-outcomeOf a = record { score = a .score; states = a .states }
-
--- the answer of an outcome, with so many steps and words
-abbrev pub answerOf : Outcome → ℕ → ℕ → Answer
-answerOf o steps words = record { score = o .score; steps = steps; words = words; states = o .states }
-
 -- the numbers of an answer in the order of a report: "score, steps, words, states"
 abbrev pub countsOf : Answer → List ℤ
 countsOf a = a .score ∷ pos (a .steps) ∷ pos (a .words) ∷ pos (a .states) ∷ []
 
-abbrev pub decodedReply : Decoded → Reply Outcome
-decodedReply (Done a) = done (outcomeOf a)
+abbrev pub decodedReply : Decoded → Reply Answer
+decodedReply (Done a) = done a
 decodedReply (DecodeRefused refusal) = refused (number refusal)
 
 -- the lengths of the lent lists: step records, words, and the store's numbers
@@ -163,17 +150,27 @@ decodeRefusal loaded direction width lent =
     beforeSearch loaded direction width lent
     orelse afterSearch (bookOf loaded) direction width lent
 
--- the answer's score; where there is no answer, a question refused
+-- "The answer is a highest score in set n, its steps ..": where there is none, a question refused
 abbrev pub answerScore : Option Hyp → ℤ
 answerScore none = pos 0
 answerScore (some q) = q .score
 
--- what the search of the notes determines
-abbrev pub searchOutcome : Book → List ℕ → ℤ → Outcome
-searchOutcome book direction width = record { score = answerScore (answer book direction width); states = length (entered book direction width) }
+abbrev pub answerSteps : Option Hyp → List Step
+answerSteps none = []
+answerSteps (some q) = q .steps
 
-unfoldable pub decode : List ℤ → List ℕ → ℤ → Lent → Reply Outcome
-decode loaded direction width lent = reply (decodeRefusal loaded direction width lent) (searchOutcome (bookOf loaded) direction width)
+-- what the search of the notes determines: "a highest score in set n", how many steps and target words its derivation has, and
+-- "the number of different states entered in all sets"
+abbrev pub searchAnswer : Book → List ℕ → ℤ → Answer
+searchAnswer book direction width = record {
+  score = answerScore (answer book direction width);
+  steps = length (answerSteps (answer book direction width));
+  words = length (targetWords book (answerSteps (answer book direction width)));
+  states = length (entered book direction width);
+}
+
+unfoldable pub decode : List ℤ → List ℕ → ℤ → Lent → Reply Answer
+decode loaded direction width lent = reply (decodeRefusal loaded direction width lent) (searchAnswer (bookOf loaded) direction width)
 
 -- "After 13, 14, 15 and after success the store is all zero"; "Those up to 12 .. change no lent list."
 abbrev pub clearedIf : ℕ → List ℤ → List ℤ
@@ -183,26 +180,22 @@ clearedIf (suc k) store = store
 unfoldable pub decodedStore : List ℤ → List ℕ → ℤ → Lent → List ℤ → List ℤ
 decodedStore loaded direction width lent store = clearedIf (beforeSearch loaded direction width lent) store
 
--- "On success the steps stand in the caller's list of step records, and each step's target words follow those of the step
--- before; places beyond the reported counts are unchanged." The steps are free where several derivations share the top score:
--- they are a valid derivation of the score reported, and the words are theirs
-pub record Written (book : Book) (direction : List ℕ) (a : Answer) (steps₀ steps₁ : List Step) (words₀ words₁ : List ℕ) : Type 0 where
-  pub steps : List Step
-  pub words : List ℕ
-  pub derivation : IsDerivation book direction (a .score) steps words
-  pub steps-counted : a .steps ≡ length steps
-  pub words-counted : a .words ≡ length words
-  pub steps-after : steps₁ ≡ writtenOver steps steps₀
-  pub words-after : words₁ ≡ writtenOver words words₀
+-- "On success the steps stand in the caller's list of step records .. places beyond the reported counts are unchanged."; after a
+-- refusal "the steps and words are as before". Ticket 1: "an answer's steps are now determined too"
+unfoldable pub decodedSteps : List ℤ → List ℕ → ℤ → Lent → List Step → List Step
+decodedSteps loaded direction width lent steps =
+    writtenIf (decodeRefusal loaded direction width lent) (answerSteps (answer (bookOf loaded) direction width)) steps
 
--- the steps and words after each case of the answer: after a refusal they "are as before"
-abbrev pub ListsAfter : Book → List ℕ → Decoded → List Step → List Step → List ℕ → List ℕ → Type 0
-ListsAfter book direction (Done a) steps₀ steps₁ words₀ words₁ = Written book direction a steps₀ steps₁ words₀ words₁
-ListsAfter book direction (DecodeRefused refusal) steps₀ steps₁ words₀ words₁ = (steps₁ ≡ steps₀) × (words₁ ≡ words₀)
+-- "and each step's target words follow those of the step before"
+unfoldable pub decodedWords : List ℤ → List ℕ → ℤ → Lent → List ℕ → List ℕ
+decodedWords loaded direction width lent words =
+    writtenIf (decodeRefusal loaded direction width lent)
+    (targetWords (bookOf loaded) (answerSteps (answer (bookOf loaded) direction width))) words
 
 -- the whole of a decode, on all inputs: its reply, and each lent list before (₀) and after (₁)
 pub record Decodes (loaded : List ℤ) (direction : List ℕ) (width : ℤ) (steps₀ steps₁ : List Step) (words₀ words₁ : List ℕ)
     (store₀ store₁ : List ℤ) (result : Decoded) : Type 0 where
   pub reply-is : decodedReply result ≡ decode loaded direction width (record { steps = length steps₀; words = length words₀; store = length store₀ })
-  pub lists-are : ListsAfter (bookOf loaded) direction result steps₀ steps₁ words₀ words₁
+  pub steps-are : steps₁ ≡ decodedSteps loaded direction width (record { steps = length steps₀; words = length words₀; store = length store₀ }) steps₀
+  pub words-are : words₁ ≡ decodedWords loaded direction width (record { steps = length steps₀; words = length words₀; store = length store₀ }) words₀
   pub store-is : store₁ ≡ decodedStore loaded direction width (record { steps = length steps₀; words = length words₀; store = length store₀ }) store₀

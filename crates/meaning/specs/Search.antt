@@ -72,6 +72,6 @@ entered book direction width = run (search book direction width)
 unfoldable pub lastSet : Book → List ℕ → ℤ → List Hyp
 lastSet book direction width = setOf (search book direction width) (wordCount direction) (entered book direction width)
 
--- "a highest score in set n": a state of set n that none of them is better than
+-- "a highest score in set n", and "Among derivations of equal score the first in order wins": a state of set n that none of them is better than
 unfoldable pub answer : Book → List ℕ → ℤ → Option Hyp
 answer book direction width = best (search book direction width)

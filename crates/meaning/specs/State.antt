@@ -5,15 +5,15 @@ use mathlib.Core.Bool.{Bool, true, false, not, _&&_, _||_}
 use mathlib.Core.List.{List, [], _∷_, List·Memᴰ}
 use lib.Dec.{eqb, leb}
 use lib.IntN.{ℤ, pos, _+ℤ_, _*ℤ_}
-use lib.Signed.{ltZ}
 use lib.ListN.{replicate}
 use Rattle.laws.specs.Bits.{bitsOf}
 use Rattle.laws.specs.Lists.{count, eqList, Distinct}
 use Rattle.search_theory.specs.Search.{Hypothesis}
+use Rattle.search_theory.specs.Orders.{ahead}
 use Rattle.meaning.specs.Bounds.{scoreMost, penaltyMost, wordsBound}
 use Rattle.meaning.specs.Book.{Book}
 use Rattle.meaning.specs.Direction.{wordCount}
-use Rattle.meaning.specs.Derivation.{entryAt, fits, covers, jump, wordsScore}
+use Rattle.meaning.specs.Derivation.{entryAt, fits, covers, jump, wordsScore, stepBefore}
 use Rattle.meaning.specs.declared.Step.{Step}
 use Rattle.meaning.specs.declared.State.{State}
 
@@ -95,9 +95,9 @@ gain book k step =
     +ℤ book .eta *ℤ pos (jump (k .r) step)
     +ℤ wordsScore book (k .word1) (k .word2) (entryAt book (step .entry) .target)
 
--- "Of equal states the higher score stays."
+-- "Of equal states the higher score stays."; "Of equal states with equal score, the one whose steps come first stays"
 unfoldable pub isBetter : Hyp → Hyp → Bool
-isBetter new old = ltZ (old .score) (new .score)
+isBetter new old = ahead stepBefore new old
 
 -- ════ the bound, and the constants of the code
 

@@ -2,21 +2,22 @@
 use Prim.Native.Nat.{ℕ, zero, suc, _/_, _≤_, _<_}
 use native.Mathlib.Omega.{arith}
 use native.Mathlib.Nat.{le-trans}
-use mathlib.Core.Path.{_≡_, refl, sym, _∙_, ap, subst}
+use mathlib.Core.Path.{_≡_, refl, sym, _∙_, ap}
 use mathlib.Core.Logic.{_↔_, _⊎_, inl, inr, ⊎-elim}
 use mathlib.Core.Bool.{cond}
 use mathlib.Core.List.{List}
 use borrow.Author.Tests.{leb-true, leb-false}
 use lib.Dec.{leb}
 use lib.IntN.{ℤ, pos, negsuc}
-use lib.ListN.{length, replicate}
+use lib.ListN.{length, take, drop, replicate}
+use lib.Seq.{take-at, drop-at}
 use Rattle.laws.proofs.Tests.{by-test, is-false, clash}
 use Rattle.meaning.specs.Questions.{number}
 use Rattle.meaning.specs.Book.{Book, bookOf}
-use Rattle.meaning.specs.Derivation.{scoreOf}
+use Rattle.meaning.specs.Derivation.{targetWords, scoreOf}
 use Rattle.meaning.specs.State.{Key, AreReachable}
-use Rattle.meaning.specs.Search.{isOff, entered}
-use Rattle.meaning.specs.Reply.{Reply, refused, done, Lent, Outcome, outcomeOf, proposalRefusal, scoreProposal, scoredReply, beforeSearch, decodeRefusal, decode, decodedReply, clearedIf, decodedStore, ListsAfter, Decodes}
+use Rattle.meaning.specs.Search.{isOff, entered, answer}
+use Rattle.meaning.specs.Reply.{Reply, refused, done, Lent, writtenOver, proposalRefusal, scoreProposal, scoredReply, beforeSearch, decodeRefusal, answerSteps, decode, decodedReply, clearedIf, decodedSteps, decodedWords, decodedStore, Decodes, searchAnswer}
 use Rattle.meaning.specs.declared.Answer.{Answer}
 use Rattle.meaning.specs.declared.Decoded.{Decoded}
 use Rattle.meaning.specs.declared.Decoded.the-variants.{Done, Refused}
@@ -25,11 +26,11 @@ use Rattle.meaning.specs.declared.Scored.the-variants.{Score, Refused as ScoreR
 use Rattle.meaning.specs.declared.Refusal.{Refusal}
 use Rattle.meaning.specs.declared.Refusal.the-variants.{StoreTooSmall, NoDerivation, LastSetEmpty}
 use Rattle.meaning.specs.declared.Step.{Step}
-use Rattle.meaning.proofs.Chains.{done-passes, refused-is, reply-done}
+use Rattle.meaning.proofs.Chains.{done-passes, refused-is, reply-done, written-done, written-refused, done-is}
 use Rattle.meaning.proofs.Demands as Notes
 use Rattle.meaning.proofs.Reach.{keysEntered, entered-all, entered-few, entered-counted, never-13, always-13}
 use Rattle.meaning.proofs.Numbered.{number-from, number-same, refused-reply}
-use Rattle.phrase.specs.Demands.{DecodeDemands, ScoreDemands}
+use Rattle.phrase.specs.Demands.{DecodeDemands, SameAnswer, ScoreDemands}
 
 -- ════ a decode
 
@@ -38,9 +39,9 @@ refused-result : (result : Decoded) (refusal : Refusal) → decodedReply result 
 refused-result (Done a) refusal e = let z : _≡_ {A = ℕ} 0 1 = cc in absurd (omega arith)
 refused-result (Refused r) refusal e = let z : number r ≡ number refusal = cc in ap Refused (number-same r refusal z)
 
-pub done-result : (result : Decoded) (o : Outcome) → decodedReply result ≡ done o → (a : Answer) × (result ≡ Done a)
-done-result (Done a) o e = (a, refl)
-done-result (Refused r) o e = let z : _≡_ {A = ℕ} 0 1 = cc in absurd (omega arith)
+pub done-result : (result : Decoded) (a : Answer) → decodedReply result ≡ done a → result ≡ Done a
+done-result (Done b) a e = let s : b ≡ a = cc in ap Done s
+done-result (Refused r) a e = let z : _≡_ {A = ℕ} 0 1 = cc in absurd (omega arith)
 
 cleared : (k : ℕ) (store : List ℤ) → k ≡ 0 → clearedIf k store ≡ replicate (length store) (pos 0)
 cleared zero store e = refl
@@ -49,6 +50,14 @@ cleared (suc k) store e = absurd (omega arith)
 kept : (k : ℕ) (store : List ℤ) → 1 ≤ k → clearedIf k store ≡ store
 kept zero store h = absurd (omega arith)
 kept (suc k) store h = refl
+
+-- a list written over: what stands at its beginning, and behind it
+module _ {A : Type 0} where
+  first-over : (new old : List A) {list : List A} (n : ℕ) → list ≡ writtenOver new old → n ≡ length new → take n list ≡ new
+  first-over new old n w e = ap (take n) w ∙ take-at new (drop (length new) old) n (sym e)
+
+  rest-over : (new old : List A) {list : List A} (n : ℕ) → list ≡ writtenOver new old → n ≡ length new → drop n list ≡ drop n old
+  rest-over new old n w e = ap (drop n) w ∙ drop-at new (drop (length new) old) n (sym e) ∙ ap (λ (k : ℕ). drop k old) (sym e)
 
 -- a store of so many places has room for the states that can be reached, or is too small for them: the states entered with pruning off are these
 pub room-or-small : (book : Book) (direction : List ℕ) (places : ℕ)
@@ -65,14 +74,51 @@ module _ (loaded : List ℤ) (direction : List ℕ) (width : ℤ) (steps₀ step
   abbrev lent : Lent
   lent = record { steps = length steps₀; words = length words₀; store = length store₀ }
 
-  decoded : (a : Answer) → result ≡ Done a → decode loaded direction width lent ≡ done (outcomeOf a)
+  decoded : (a : Answer) → result ≡ Done a → decode loaded direction width lent ≡ done a
   decoded a e = sym (D .reply-is) ∙ ap decodedReply e
 
   turned : (refusal : Refusal) → result ≡ Refused refusal → decode loaded direction width lent ≡ refused (number refusal)
   turned refusal e = sym (D .reply-is) ∙ ap decodedReply e
 
-  lists : (refusal : Refusal) → result ≡ Refused refusal → (steps₁ ≡ steps₀) × (words₁ ≡ words₀)
-  lists refusal e = subst (λ (r : Decoded). ListsAfter book direction r steps₀ steps₁ words₀ words₁) e (D .lists-are)
+  -- the steps that the search arrives at
+  abbrev found : List Step
+  found = answerSteps (answer book direction width)
+
+  refusal-is : (refusal : Refusal) → result ≡ Refused refusal → decodeRefusal loaded direction width lent ≡ number refusal
+  unfolding decode
+  refusal-is refusal e = refused-is (decodeRefusal loaded direction width lent) (number refusal) _ (turned refusal e)
+
+  passes : (a : Answer) → result ≡ Done a → decodeRefusal loaded direction width lent ≡ 0
+  unfolding decode
+  passes a e = done-passes (decodeRefusal loaded direction width lent) _ a (decoded a e)
+
+  -- the answer is what the search determines
+  answer-is : (a : Answer) → result ≡ Done a → searchAnswer book direction width ≡ a
+  unfolding decode
+  answer-is a e = done-is (decodeRefusal loaded direction width lent) _ a (decoded a e)
+
+  -- they and their words stand in the lists, or the lists are as before
+  pub lists-written : (a : Answer) → result ≡ Done a → (steps₁ ≡ writtenOver found steps₀) × (words₁ ≡ writtenOver (targetWords book found) words₀)
+  unfolding decodedSteps decodedWords
+  lists-written a e = (D .steps-are ∙ written-done _ found steps₀ (passes a e), D .words-are ∙ written-done _ (targetWords book found) words₀ (passes a e))
+
+  lists-kept : (refusal : Refusal) → result ≡ Refused refusal → (steps₁ ≡ steps₀) × (words₁ ≡ words₀)
+  unfolding decodedSteps decodedWords
+  lists-kept refusal e =
+      let k : 1 ≤ decodeRefusal loaded direction width lent = omega (arith, refusal-is refusal e, number-from refusal) in
+      (D .steps-are ∙ written-refused _ found steps₀ k, D .words-are ∙ written-refused _ (targetWords book found) words₀ k)
+
+  -- where the lists have the steps and the words: at the beginning, so many as are reported
+  steps-first : (a : Answer) → result ≡ Done a → take (a .steps) steps₁ ≡ found
+  steps-first a e = first-over found steps₀ (a .steps) (lists-written a e .0) (Notes.decode-counts loaded direction width lent a (decoded a e) .0)
+
+  words-first : (a : Answer) → result ≡ Done a → take (a .words) words₁ ≡ targetWords book found
+  words-first a e = first-over (targetWords book found) words₀ (a .words) (lists-written a e .1) (Notes.decode-counts loaded direction width lent a (decoded a e) .1)
+
+  lists-rest : (a : Answer) → result ≡ Done a → (drop (a .steps) steps₁ ≡ drop (a .steps) steps₀) × (drop (a .words) words₁ ≡ drop (a .words) words₀)
+  lists-rest a e =
+      let n = Notes.decode-counts loaded direction width lent a (decoded a e) in
+      (rest-over found steps₀ (a .steps) (lists-written a e .0) (n .0), rest-over (targetWords book found) words₀ (a .words) (lists-written a e .1) (n .1))
 
   store-zero : beforeSearch loaded direction width lent ≡ 0 → store₁ ≡ replicate (length store₀) (pos 0)
   unfolding decodedStore
@@ -86,18 +132,18 @@ module _ (loaded : List ℤ) (direction : List ℕ) (width : ℤ) (steps₀ step
   says : (refusal : Refusal) → decode loaded direction width lent ≡ refused (number refusal) → result ≡ Refused refusal
   says refusal e = refused-result result refusal (D .reply-is ∙ e)
 
-  answers : (o : Outcome) → decode loaded direction width lent ≡ done o → (a : Answer) × (result ≡ Done a)
-  answers o e = done-result result o (D .reply-is ∙ e)
+  answers : (a : Answer) → decode loaded direction width lent ≡ done a → result ≡ Done a
+  answers a e = done-result result a (D .reply-is ∙ e)
 
   taken : (decodeRefusal loaded direction width lent ≡ 0) ↔ ((a : Answer) × (result ≡ Done a))
   unfolding decode
-  taken = (λ z. answers _ (reply-done (decodeRefusal loaded direction width lent) _ z), λ r. done-passes (decodeRefusal loaded direction width lent) _ (outcomeOf (r .0)) (decoded (r .0) (r .1)))
+  taken = (λ z. (_, answers _ (reply-done (decodeRefusal loaded direction width lent) _ z)), λ r. passes (r .0) (r .1))
 
   turned-down : (refusal : Refusal) → (decodeRefusal loaded direction width lent ≡ number refusal) ↔ (result ≡ Refused refusal)
   unfolding decode
   turned-down refusal = (
     λ z. says refusal (sym (refused-reply refusal (decodeRefusal loaded direction width lent) _ z)),
-    λ e. refused-is (decodeRefusal loaded direction width lent) (number refusal) _ (turned refusal e),
+    refusal-is refusal,
   )
 
   -- the same width by another name
@@ -123,12 +169,16 @@ module _ (loaded : List ℤ) (direction : List ℕ) (width : ℤ) (steps₀ step
       → length (entered book direction v) ≤ length store₀ / 8 → ((a : Answer) × (result ≡ Done a)) ⊎ (result ≡ Refused refusal)
   answer-or v w refusal n b h =
       ⊎-elim
-      (λ o. inl (answers (o .0) (sym (decode-at v w) ∙ o .1)))
-      (λ e. inr (says refusal (sym (decode-at v w) ∙ e ∙ ap {B = Reply Outcome} refused (sym n))))
+      (λ o. inl (o .0, answers (o .0) (sym (decode-at v w) ∙ o .1)))
+      (λ e. inr (says refusal (sym (decode-at v w) ∙ e ∙ ap {B = Reply Answer} refused (sym n))))
       (Notes.answer-or-none loaded direction v lent (before-at v w b) h)
 
+  -- with pruning off
+  first-off : width ≡ negsuc 0 → (a : Answer) → result ≡ Done a → take (a .steps) steps₁ ≡ answerSteps (answer book direction (negsuc 0))
+  first-off w a e = steps-first a e ∙ ap (λ (v : ℤ). answerSteps (answer book direction v)) w
+
   states-entered : (a : Answer) → result ≡ Done a → a .states ≡ length (entered book direction width)
-  states-entered a e = Notes.decode-states loaded direction width lent (outcomeOf a) (decoded a e)
+  states-entered a e = Notes.decode-states loaded direction width lent a (decoded a e)
 
   pub decode-demands : DecodeDemands loaded direction width steps₀ steps₁ words₀ words₁ store₀ store₁ result
   decode-demands =
@@ -136,34 +186,51 @@ module _ (loaded : List ℤ) (direction : List ℕ) (width : ℤ) (steps₀ step
         demand1 = record {
           taken = taken;
           turned-down = turned-down;
-          steps-kept = λ refusal e. lists refusal e .0;
-          words-kept = λ refusal e. lists refusal e .1;
+          steps-kept = λ refusal e. lists-kept refusal e .0;
+          words-kept = λ refusal e. lists-kept refusal e .1;
           store-kept = λ refusal e h.
               let b = Notes.refused-early loaded direction width lent (number refusal) h (turned refusal e) in
               let n = number-from refusal in
               store-same (omega arith);
           store-cleared = λ refusal e h. store-zero (Notes.refused-late loaded direction width lent (number refusal) h (turned refusal e));
-          answered-cleared = λ r. store-zero (Notes.answered loaded direction width lent (outcomeOf (r .0)) (decoded (r .0) (r .1)) .before);
+          answered-cleared = λ r. store-zero (Notes.answered loaded direction width lent (r .0) (decoded (r .0) (r .1)) .before);
         };
         demand2 = record {
-          valid-and-exact = λ a e. subst (λ (r : Decoded). ListsAfter book direction r steps₀ steps₁ words₀ words₁) e (D .lists-are);
+          valid-and-exact = λ a e. rw (steps-first a e, words-first a e) (Notes.decode-derives loaded direction width lent a (decoded a e));
+          rest-kept = lists-rest;
+          steps-are = steps-first;
           states-entered = states-entered;
           states-reachable = λ w a e keys r. states-entered a e ∙ ap (λ (v : ℤ). length (entered book direction v)) w ∙ entered-counted book direction keys r;
         };
         demand3 = record {
           none-valid = λ w e steps. is-false (λ v. Notes.decode-none loaded direction lent (decode-at (negsuc 0) w ∙ turned NoDerivation e) steps v);
           gives-14 = λ w b r f. says NoDerivation (sym (decode-at (negsuc 0) w) ∙ Notes.none-decode loaded direction lent (before-at (negsuc 0) w b) (room (negsuc 0) r) (λ steps v. clash v (f steps)));
-          none-higher = λ w a e. Notes.decode-best loaded direction lent (outcomeOf a) (decode-at (negsuc 0) w ∙ decoded a e);
+          none-higher = λ w a e. Notes.decode-best loaded direction lent a (decode-at (negsuc 0) w ∙ decoded a e);
+          none-earlier = λ w a e steps v s. rw (first-off w a e) (Notes.decode-first loaded direction lent a (decode-at (negsuc 0) w ∙ decoded a e) steps v s);
+          others-later = λ w a e steps v s. rw (first-off w a e) (Notes.decode-only loaded direction lent a (decode-at (negsuc 0) w ∙ decoded a e) steps v s);
           only-13 = λ e. (keysEntered book direction (negsuc 0), entered-all book direction, small e);
           never-13 = λ r e. never-13 loaded direction width lent (r .0) (r .1 .all-listed) (r .2) (turned StoreTooSmall e);
           gives-13 = λ w b r. says StoreTooSmall (sym (decode-at (negsuc 0) w) ∙ always-13 loaded direction lent (r .0) (r .1 .different) (r .1 .are-reached) (r .2) (before-at (negsuc 0) w b));
-          best-of-last-set = λ a e. Notes.decode-last loaded direction width lent (outcomeOf a) (decoded a e);
+          best-of-last-set = λ a e. Notes.decode-last loaded direction width lent a (decoded a e);
+          first-of-last-set = λ a e q m s. rw (steps-first a e) (Notes.decode-last-first loaded direction width lent a (decoded a e) q m s);
           only-15 = λ e. Notes.decode-emptied loaded direction width lent (turned LastSetEmpty e);
           answer-or-14 = λ w b r. answer-or (negsuc 0) w NoDerivation refl b (room (negsuc 0) r);
           answer-or-15 = λ β w b r. answer-or (pos β) w LastSetEmpty refl b (room (pos β) r);
           never-14 = λ β w e. Notes.width-never-14 loaded direction β lent (decode-at (pos β) w ∙ turned NoDerivation e);
         };
       }
+
+-- ════ two decodes of one book, direction and width
+
+pub same-answer : (loaded : List ℤ) (direction : List ℕ) (width : ℤ) (steps₀ steps₁ steps₀′ steps₂ : List Step) (words₀ words₁ words₀′ words₂ : List ℕ) (store₀ store₁ store₀′ store₂ : List ℤ) (result₁ result₂ : Decoded)
+    → Decodes loaded direction width steps₀ steps₁ words₀ words₁ store₀ store₁ result₁ → Decodes loaded direction width steps₀′ steps₂ words₀′ words₂ store₀′ store₂ result₂
+    → SameAnswer steps₁ steps₂ words₁ words₂ result₁ result₂
+same-answer loaded direction width steps₀ steps₁ steps₀′ steps₂ words₀ words₁ words₀′ words₂ store₀ store₁ store₀′ store₂ result₁ result₂ D E =
+    record {
+      same = λ a b e f. sym (answer-is loaded direction width steps₀ steps₁ words₀ words₁ store₀ store₁ result₁ D a e) ∙ answer-is loaded direction width steps₀′ steps₂ words₀′ words₂ store₀′ store₂ result₂ E b f;
+      same-steps = λ a b e f. steps-first loaded direction width steps₀ steps₁ words₀ words₁ store₀ store₁ result₁ D a e ∙ sym (steps-first loaded direction width steps₀′ steps₂ words₀′ words₂ store₀′ store₂ result₂ E b f);
+      same-words = λ a b e f. words-first loaded direction width steps₀ steps₁ words₀ words₁ store₀ store₁ result₁ D a e ∙ sym (words-first loaded direction width steps₀′ steps₂ words₀′ words₂ store₀′ store₂ result₂ E b f);
+    }
 
 -- ════ a scoring
 

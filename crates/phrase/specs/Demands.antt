@@ -1,7 +1,7 @@
 -- The three demands as statements, with no proof. proofs/Demanded.antt shows them from the contracts of `decode` and `score` alone, on every input
 -- and without any other condition: `decode-demands`, `score-demands`. That every call ends is part of what a contract means.
 -- The contracts of the other calls are equations with a definition: they are demand 1 as they stand.
--- The definitions are those of crate notes; `negsuc 0` is −1, and the empty type ⊥ says "never".
+-- The definitions are those of crate meaning; `negsuc 0` is −1, and the empty type ⊥ says "never".
 use Prim.Native.Nat.{ℕ, _/_, _≤_, _<_}
 use mathlib.Core.Path.{_≡_}
 use mathlib.Core.Logic.{_↔_, _⊎_}
@@ -9,14 +9,14 @@ use mathlib.Core.Bool.{true, false}
 use mathlib.Core.List.{List, [], List·Memᴰ}
 use lib.IntN.{ℤ, pos, negsuc}
 use lib.Signed.{_≤ℤ_}
-use lib.ListN.{length, replicate}
+use lib.ListN.{length, take, drop, replicate}
 use Rattle.meaning.specs.Questions.{number}
 use Rattle.meaning.specs.Book.{Book, bookOf, bookRefusal}
 use Rattle.meaning.specs.Direction.{directionRefusal}
-use Rattle.meaning.specs.Derivation.{isValid, scoreOf}
+use Rattle.meaning.specs.Derivation.{IsDerivation, isValid, scoreOf, comesBefore}
 use Rattle.meaning.specs.State.{Key, Hyp, AreReachable}
-use Rattle.meaning.specs.Search.{entered, lastSet}
-use Rattle.meaning.specs.Reply.{Lent, proposalRefusal, beforeSearch, decodeRefusal, Written}
+use Rattle.meaning.specs.Search.{entered, lastSet, answer}
+use Rattle.meaning.specs.Reply.{Lent, proposalRefusal, beforeSearch, decodeRefusal, answerSteps}
 use Rattle.meaning.specs.declared.Step.{Step}
 use Rattle.meaning.specs.declared.Answer.{Answer}
 use Rattle.meaning.specs.declared.Decoded.{Decoded}
@@ -71,8 +71,11 @@ module _ (loaded : List ℤ) (direction : List ℕ) (width : ℤ) (steps₀ step
   -- Demand 2. "What is handed back is a valid derivation as Collins' notes define it, with its score to the last unit; [a proposed list: see
   -- ScoreDemands]; the states entered are those of the notes' procedure, pruning on or off."
   pub record Demand2 : Type 0 where
-    -- it stands in the lists, and the words are its words
-    pub valid-and-exact : (a : Answer) → result ≡ Done a → Written book direction a steps₀ steps₁ words₀ words₁
+    -- it stands at the beginning of the step list, and its words at the beginning of the word list; the rest of both is as before
+    pub valid-and-exact : (a : Answer) → result ≡ Done a → IsDerivation book direction (a .score) (take (a .steps) steps₁) (take (a .words) words₁)
+    pub rest-kept : (a : Answer) → result ≡ Done a → (drop (a .steps) steps₁ ≡ drop (a .steps) steps₀) × (drop (a .words) words₁ ≡ drop (a .words) words₀)
+    -- ticket 1: "an answer's steps are now determined too"
+    pub steps-are : (a : Answer) → result ≡ Done a → take (a .steps) steps₁ ≡ answerSteps (answer book direction width)
     -- their number is reported; with pruning off it is the number of those that the transitions can reach
     pub states-entered : (a : Answer) → result ≡ Done a → a .states ≡ length (entered book direction width)
     pub states-reachable : PruningOff → (a : Answer) → result ≡ Done a → (keys : List Key) → AreReachable book direction keys → a .states ≡ length keys
@@ -85,12 +88,19 @@ module _ (loaded : List ℤ) (direction : List ℕ) (width : ℤ) (steps₀ step
     pub gives-14 : PruningOff → Begins → HasRoom → ((steps : List Step) → isValid book direction steps ≡ false) → result ≡ Refused NoDerivation
     -- none scores higher
     pub none-higher : PruningOff → (a : Answer) → result ≡ Done a → (steps : List Step) → isValid book direction steps ≡ true → scoreOf book steps ≤ℤ a .score
+    -- ticket 1: "with pruning off no valid derivation of that score comes earlier", and each other one comes later
+    pub none-earlier : PruningOff → (a : Answer) → result ≡ Done a → (steps : List Step) → isValid book direction steps ≡ true → scoreOf book steps ≡ a .score
+        → comesBefore steps (take (a .steps) steps₁) ≡ false
+    pub others-later : PruningOff → (a : Answer) → result ≡ Done a → (steps : List Step) → isValid book direction steps ≡ true → scoreOf book steps ≡ a .score
+        → (take (a .steps) steps₁ ≡ steps) ⊎ (comesBefore (take (a .steps) steps₁) steps ≡ true)
     -- 13 only when the store is too small, with any width; with pruning off, always then
     pub only-13 : result ≡ Refused StoreTooSmall → IsTooSmall
     pub never-13 : HasRoom → result ≡ Refused StoreTooSmall → ⊥
     pub gives-13 : PruningOff → Begins → IsTooSmall → result ≡ Refused StoreTooSmall
-    -- the best of the last set; with a width never 14, and 15 only where that set is empty
+    -- the best of the last set ..
     pub best-of-last-set : (a : Answer) → result ≡ Done a → (q : Hyp) → List·Memᴰ q (lastSet book direction width) → q .score ≤ℤ a .score
+    -- .. and of those with its score the first in order; with a width never 14, and 15 only where that set is empty
+    pub first-of-last-set : (a : Answer) → result ≡ Done a → (q : Hyp) → List·Memᴰ q (lastSet book direction width) → q .score ≡ a .score → comesBefore (q .steps) (take (a .steps) steps₁) ≡ false
     pub never-14 : (β : ℕ) → width ≡ pos β → result ≡ Refused NoDerivation → ⊥
     pub only-15 : result ≡ Refused LastSetEmpty → lastSet book direction width ≡ []
     -- with room nothing is given but an answer or 14, with a width an answer or 15
@@ -101,6 +111,16 @@ module _ (loaded : List ℤ) (direction : List ℕ) (width : ℤ) (steps₀ step
     pub demand1 : Demand1
     pub demand2 : Demand2
     pub demand3 : Demand3
+
+-- ════ two decodes of one book, direction and width, each with lent lists of its own: ticket 1, "Two cabinets in one corridor showed different wordings of
+-- one direction, both at the top score"
+
+module _ (steps₁ steps₂ : List Step) (words₁ words₂ : List ℕ) (result₁ result₂ : Decoded) where
+  -- the answer depends on the book, the direction and the width alone
+  pub record SameAnswer : Type 0 where
+    pub same : (a b : Answer) → result₁ ≡ Done a → result₂ ≡ Done b → a ≡ b
+    pub same-steps : (a b : Answer) → result₁ ≡ Done a → result₂ ≡ Done b → take (a .steps) steps₁ ≡ take (b .steps) steps₂
+    pub same-words : (a b : Answer) → result₁ ≡ Done a → result₂ ≡ Done b → take (a .words) words₁ ≡ take (b .words) words₂
 
 -- ════ a scoring of proposed steps: what is handed in, and the result
 

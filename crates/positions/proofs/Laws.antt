@@ -279,7 +279,17 @@ cover-ones step bits a b c free =
 
 -- ════ powers of 2
 
-pub power-split : (i : ℕ) → 2 ^ (i % 6) * 2 ^ (6 * (i / 6)) ≡ 2 ^ i
+pub power-split : (i : ℕ) → 2 ^ (i % 8) * 2 ^ (8 * (i / 8)) ≡ 2 ^ i
 power-split i =
-    let e : i % 6 + 6 * (i / 6) ≡ i = omega arith in
-    sym (pow-add 2 (i % 6) (6 * (i / 6))) ∙ ap (λ (k : ℕ). 2 ^ k) e
+    let e : i % 8 + 8 * (i / 8) ≡ i = omega arith in
+    sym (pow-add 2 (i % 8) (8 * (i / 8))) ∙ ap (λ (k : ℕ). 2 ^ k) e
+
+-- the last of eight numbers
+upper-half : (i : ℕ) → (i ≡ 0 → ⊥) → (i ≡ 1 → ⊥) → (i ≡ 2 → ⊥) → (i ≡ 3 → ⊥) → 4 ≤ i
+upper-half i a b c d = omega arith
+
+last-half : (i : ℕ) → 4 ≤ i → i < 8 → (i ≡ 4 → ⊥) → (i ≡ 5 → ⊥) → (i ≡ 6 → ⊥) → i ≡ 7
+last-half i l h a b c = omega arith
+
+pub last-of-eight : (i : ℕ) → i < 8 → (i ≡ 0 → ⊥) → (i ≡ 1 → ⊥) → (i ≡ 2 → ⊥) → (i ≡ 3 → ⊥) → (i ≡ 4 → ⊥) → (i ≡ 5 → ⊥) → (i ≡ 6 → ⊥) → i ≡ 7
+last-of-eight i h a b c d e f g = last-half i (upper-half i a b c d) h e f g

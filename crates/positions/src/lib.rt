@@ -62,7 +62,7 @@ pub fn is_free(runs: Runs, first: usize, last: usize) -> bool
 
 // 2 to the power of i. (A table would be copied onto the stack by every call.)
 fn low_power(i: usize) -> u64
-    requires { ⌜ i < 6 ⌝ }
+    requires { ⌜ i < 8 ⌝ }
     ensures { λ r. ⌜ r ≡ 2 ^ i ⌝ }
 {
     match i {
@@ -71,31 +71,32 @@ fn low_power(i: usize) -> u64
         2 => 4,
         3 => 8,
         4 => 16,
-        _ => 32,
+        5 => 32,
+        6 => 64,
+        _ => 128,
     }
 }
 
-// 64 to the power of i.
+// 256 to the power of i.
 fn high_power(i: usize) -> u64
-    requires { ⌜ i < 6 ⌝ }
-    ensures { λ r. ⌜ r ≡ 2 ^ (6 * i) ⌝ }
+    requires { ⌜ i < 5 ⌝ }
+    ensures { λ r. ⌜ r ≡ 2 ^ (8 * i) ⌝ }
 {
     match i {
         0 => 1,
-        1 => 64,
-        2 => 4096,
-        3 => 262144,
-        4 => 16777216,
-        _ => 1073741824,
+        1 => 256,
+        2 => 65536,
+        3 => 16777216,
+        _ => 4294967296,
     }
 }
 
-// 2 to the power of i.
+// 2 to the power of i: a division by 8 costs next to nothing.
 fn power(i: usize) -> u64
     requires { ⌜ i ≤ 32 ⌝ }
     ensures { λ r. ⌜ r ≡ 2 ^ i ⌝ }
 {
-    low_power(i % 6) * high_power(i / 6)
+    low_power(i % 8) * high_power(i / 8)
 }
 
 // The number with the positions first to last covered too, which are free in it.

@@ -12,8 +12,9 @@ use Rattle.laws.proofs.Lists.{mem-getD}
 use Rattle.meaning.specs.Questions.{number}
 use Rattle.meaning.specs.Bounds.{wordSpan}
 use Rattle.meaning.specs.Render.{decimal, printedLine, printedStep, printedRefusal, printedAnswer}
-use Rattle.meaning.specs.Reply.{Outcome, answerOf, countsOf}
+use Rattle.meaning.specs.Reply.{countsOf}
 use Rattle.meaning.specs.State.{scoreBound}
+use Rattle.meaning.specs.declared.Answer.{Answer}
 use Rattle.meaning.specs.declared.Refusal.{Refusal}
 use Rattle.meaning.specs.declared.Step.{Step}
 use Rattle.meaning.proofs.Numbered.{number-to}
@@ -83,15 +84,15 @@ words-short words h =
 
 -- ---- an answer: 32 steps of 20 bytes, 256 words of 6, and the line of its numbers
 
-pub answer-short : (a : Outcome) (steps : List Step) (words : List ℕ) → Within scoreBound (a .score) → a .states < 2 ^ 64
+pub answer-short : (a : Answer) (steps : List Step) (words : List ℕ) → Within scoreBound (a .score) → a .steps ≤ 32 → a .words ≤ 256 → a .states < 2 ^ 64
     → length steps ≤ 32 → ((s : Step) → List·Memᴰ s steps → Small s) → length words ≤ 256 → ((w : ℕ) → List·Memᴰ w words → w < wordSpan)
     → length (printedAnswer a steps words) ≤ 4_096
 unfolding printedAnswer
-answer-short a steps words score states few small short fit =
-    let counts = printedLine 65 (countsOf (answerOf a (length steps) (length words))) in
+answer-short a steps words score step-count word-count states few small short fit =
+    let counts = printedLine 65 (countsOf a) in
     let lines = concat (map printedStep steps) in
     omega
-    (arith, length-append (counts ++ lines) (printedLine 87 (map pos words)), length-append counts lines, line-4-long 65 (a .score) (pos (length steps)) (pos (length words)) (pos (a .states)), score-short (a .score) score, two-digits (length steps) (omega arith), at-most 2 (length words) (omega arith), twenty-digits (a .states) states, steps-short steps small, words-short words fit)
+    (arith, length-append (counts ++ lines) (printedLine 87 (map pos words)), length-append counts lines, line-4-long 65 (a .score) (pos (a .steps)) (pos (a .words)) (pos (a .states)), score-short (a .score) score, two-digits (a .steps) (omega arith), at-most 2 (a .words) (omega arith), twenty-digits (a .states) states, steps-short steps small, words-short words fit)
 
 -- steps that stand as plain numbers are of 16-bit numbers where the numbers are
 pub steps-small : (numbers : List ℕ) (count : ℕ) → ((i : ℕ) → getD numbers i 0 < wordSpan) → (s : Step) → List·Memᴰ s (stepsOf (plainOf numbers count)) → Small s

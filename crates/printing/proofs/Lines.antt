@@ -7,11 +7,10 @@ use lib.IntN.{ℤ, pos}
 use lib.ListN.{length, length-append}
 use Rattle.laws.specs.Lists.{concat}
 use Rattle.meaning.specs.Numerals.{newline}
-use Rattle.meaning.specs.Reply.{outcomeOf, countsOf}
+use Rattle.meaning.specs.Reply.{countsOf}
 use Rattle.meaning.specs.Render.{printedLine, printedStep, printedAnswer}
 use Rattle.meaning.specs.declared.Answer.{Answer}
 use Rattle.records.specs.Plain.{stepsOf}
-use Rattle.records.proofs.Laws.{count-steps}
 use Rattle.printing.specs.Lines.{plainOf}
 use Rattle.decimals.specs.Put.{field}
 
@@ -24,15 +23,15 @@ pub line-long : (l : ℕ) (ns : List ℤ) → length (printedLine l ns) ≡ 2 + 
 line-long l ns = ap length (line-is l ns) ∙ simp length-append (omega arith)
 
 -- an answer: its numbers, its steps, its words
-pub answer-is : (a : Answer) (plain words : List ℕ) → a .words ≡ length words
-    → printedAnswer (outcomeOf a) (stepsOf (plainOf plain (a .steps))) words
+pub answer-is : (a : Answer) (plain words : List ℕ)
+    → printedAnswer a (stepsOf (plainOf plain (a .steps))) words
     ≡ printedLine 65 (countsOf a) ++ concat (map printedStep (stepsOf (plainOf plain (a .steps)))) ++ printedLine 87 (map pos words)
 unfolding printedAnswer
-answer-is a plain words e = rw (count-steps (plainOf plain (a .steps)) (a .steps), e)
+answer-is a plain words = refl
 
-pub answer-long : (a : Answer) (plain words : List ℕ) → a .words ≡ length words
-    → length (printedAnswer (outcomeOf a) (stepsOf (plainOf plain (a .steps))) words)
+pub answer-long : (a : Answer) (plain words : List ℕ)
+    → length (printedAnswer a (stepsOf (plainOf plain (a .steps))) words)
     ≡ length (printedLine 65 (countsOf a))
     + length (concat (map printedStep (stepsOf (plainOf plain (a .steps)))))
     + length (printedLine 87 (map pos words))
-answer-long a plain words e = ap length (answer-is a plain words e) ∙ simp length-append
+answer-long a plain words = ap length (answer-is a plain words) ∙ simp length-append

@@ -7,7 +7,7 @@ ghost use lib.IntN.{pos};
 ghost use lib.ListN.{length, take};
 ghost use Rattle.laws.specs.Lists.{concat};
 ghost use Rattle.meaning.specs.Questions.{number};
-ghost use Rattle.meaning.specs.Reply.{outcomeOf, countsOf};
+ghost use Rattle.meaning.specs.Reply.{countsOf};
 ghost use Rattle.meaning.specs.Render.{printedLine, printedStep, printedRefusal, printedAnswer};
 ghost use Rattle.records.specs.Plain.{stepsOf};
 ghost use Rattle.decimals.specs.Put.{Put, field};
@@ -118,11 +118,10 @@ fn put_steps(out: &mut [u8], at: usize, plain: &[u16], count: usize) -> usize
 // Puts a whole answer: the line of its numbers, a line for each of its steps, and the line of its target words.
 pub fn put_answer(out: &mut [u8], at: usize, a: Answer, plain: &[u16], words: &[u16]) -> usize
     requires { ⌜ Printable (countsOf a) ⌝ }
-    requires { ⌜ a .words ≡ length (now words) ⌝ }
     requires { ⌜ length (now words) ≤ 256 ⌝ }
     requires { ⌜ 3 * a .steps ≤ length (now plain) ⌝ }
-    requires { ⌜ at + length (printedAnswer (outcomeOf a) (stepsOf (plainOf (now plain) (a .steps))) (now words)) ≤ length (now out) ⌝ }
-    ensures { λ r. ⌜ Put (printedAnswer (outcomeOf a) (stepsOf (plainOf (now (plain .entry)) (a .steps))) (now (words .entry))) at r (now (out .entry)) (now (out .exit)) ⌝ }
+    requires { ⌜ at + length (printedAnswer a (stepsOf (plainOf (now plain) (a .steps))) (now words)) ≤ length (now out) ⌝ }
+    ensures { λ r. ⌜ Put (printedAnswer a (stepsOf (plainOf (now (plain .entry)) (a .steps))) (now (words .entry))) at r (now (out .entry)) (now (out .exit)) ⌝ }
 {
     let steps = put_counts(out, at, a);
     let line = put_steps(out, steps, plain, a.steps);

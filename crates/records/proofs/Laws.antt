@@ -7,8 +7,8 @@ use mathlib.Core.Path.{_≡_, refl, sym, ap, _∙_}
 use mathlib.Core.Bool.{Bool, true, false}
 use mathlib.Core.List.{List, [], _∷_, _++_}
 use lib.Dec.{leb}
-use lib.ListN.{length, getD, set, take, drop, length-set, length-append, length-take, take-append-drop, List·getD-append}
-use lib.Seq.{getD-set-same, getD-set-other, take-all, take-length, take-suc, take-append-le, length-take-le, getD-at, set-at, append-snoc, drop-cons}
+use lib.ListN.{length, getD, set, take, drop, length-set, length-append, length-take, List·getD-append}
+use lib.Seq.{getD-set-same, getD-set-other, take-all, take-length, take-suc, length-take-le, getD-at, set-at, append-snoc, drop-cons}
 use borrow.Author.Tests.{leb-true, leb-false, le-leb, lt-leb}
 use Rattle.laws.proofs.Tests.{by-test}
 use Rattle.meaning.specs.declared.Step.{Step}
@@ -24,7 +24,7 @@ same-step : {a b c a′ b′ c′ : ℕ} → a ≡ a′ → b ≡ b′ → c ≡
 same-step {a} {b} {c} {a′} {b′} {c′} e f g = ap (λ (x : ℕ). step x b c) e ∙ ap (λ (x : ℕ). step a′ x c) f ∙ ap (step a′ b′) g
 
 -- plain numbers that agree on each of the first k steps have the same first k steps
-pub same-steps : (p r : Plain) (k : ℕ) → ((i : ℕ) → i < k → stepIn r i ≡ stepIn p i) → stepsTo r k ≡ stepsTo p k
+same-steps : (p r : Plain) (k : ℕ) → ((i : ℕ) → i < k → stepIn r i ≡ stepIn p i) → stepsTo r k ≡ stepsTo p k
 same-steps p r zero same = refl
 same-steps p r (suc k) same = ap (λ (l : List Step). l ++ (stepIn r k ∷ [])) (same-steps p r k (λ i l. same i (omega (arith, l)))) ∙ ap (λ (s : Step). stepsTo p k ++ (s ∷ [])) (same k (le-refl (suc k)))
 
@@ -77,15 +77,6 @@ pub count-steps : (p : Plain) (k : ℕ) → length (stepsTo p k) ≡ k
 count-steps p zero = refl
 count-steps p (suc k) = length-append (stepsTo p k) (stepIn p k ∷ []) ∙ omega (arith, count-steps p k)
 
--- the first k steps are the same however many are taken
-pub first-steps : (p : Plain) (k n : ℕ) → k ≤ n → take k (stepsTo p n) ≡ stepsTo p k
-first-steps p k zero h = let z : k ≡ 0 = omega arith in ap (λ (j : ℕ). take j []) z ∙ ap (stepsTo p) (sym z)
-first-steps p k (suc n) h =
-    by-test (leb k n)
-    (λ t. take-append-le k (stepsTo p n) (stepIn p n ∷ []) (omega (arith, count-steps p n, leb-true k n t)) ∙ first-steps p k n (leb-true k n t))
-    (λ f. let z : k ≡ suc n = omega (arith, leb-false k n f) in
-    take-all k (stepsTo p (suc n)) (omega (arith, count-steps p (suc n))) ∙ ap (stepsTo p) (sym z))
-
 -- step i stands at place i
 pub step-at : (p : Plain) (n i : ℕ) (d : Step) → i < n → getD (stepsTo p n) i d ≡ stepIn p i
 step-at p zero i d h = absurd (omega arith)
@@ -94,13 +85,6 @@ step-at p (suc n) i d h =
     (λ t. let z : i ≡ n = omega (arith, leb-true n i t) in
     ap (λ (j : ℕ). getD (stepsTo p n ++ (stepIn p n ∷ [])) j d) z ∙ rw (getD-at (stepsTo p n) (stepIn p n) [] d n (count-steps p n)) (ap (stepIn p) (sym z)))
     (λ f. let l : i < n = leb-false n i f in List·getD-append (stepsTo p n) (stepIn p n ∷ []) d i (omega (arith, count-steps p n)) ∙ step-at p n i d l)
-
--- steps written over a list that has them already change nothing
-pub over-same : (p : Plain) (k n : ℕ) → k ≤ n → writtenOver (stepsTo p k) (stepsTo p n) ≡ stepsTo p n
-over-same p k n h =
-    ap (λ (j : ℕ). stepsTo p k ++ drop j (stepsTo p n)) (count-steps p k)
-    ∙ ap (λ (l : List Step). l ++ drop k (stepsTo p n)) (sym (first-steps p k n h))
-    ∙ take-append-drop k (stepsTo p n)
 
 -- a list's first i records stand in p: one turn of `gather`, and its end
 pub gather-more : (ss : List Step) (i : ℕ) (p r : Plain) (d : Step) → i < min (length ss) 33 → stepsOf p ≡ take i ss → Added p (getD ss i d) r → stepsOf r ≡ take (i + 1) ss

@@ -2,7 +2,7 @@
 use Prim.Native.Nat.{ℕ, zero, suc, _*_, _≤_}
 use native.Mathlib.Nat.{le-refl}
 use native.Mathlib.Omega.{arith}
-use mathlib.Core.Path.{_≡_, sym, _∙_, ap, subst}
+use mathlib.Core.Path.{_≡_, refl, sym, _∙_, ap}
 use mathlib.Core.Bool.{Bool, true, false, _&&_}
 use mathlib.Core.List.{List, _++_}
 use borrow.Author.Tests.{leb-true}
@@ -12,11 +12,11 @@ use lib.ListN.{length, take, drop, length-append, length-map}
 use lib.Seq.{take-at}
 use Rattle.laws.specs.Integers.{natOf}
 use Rattle.laws.proofs.Tests.{both}
-use Rattle.meaning.specs.Questions.{_unless_, _orelse_, number}
-use Rattle.meaning.specs.Book.{bookOf, loadedOf, readRefusal}
+use Rattle.meaning.specs.Questions.{_orelse_, number}
+use Rattle.meaning.specs.Book.{loadedOf, readRefusal}
 use Rattle.meaning.specs.Direction.{wordCount, directionNumbers, directionOf, readDirectionRefusal}
-use Rattle.meaning.specs.Reply.{Reply, done, reply, Outcome, decode, writtenIf, readReply, readBook, readBookList, readDirection, readDirectionList}
-use Rattle.meaning.specs.Render.{printedRefusal, PrintsReply, PrintsAfter, inputRefusal, renderDecode, Renders}
+use Rattle.meaning.specs.Reply.{done, reply, decode, writtenIf, readReply, readBook, readBookList, readDirection, readDirectionList}
+use Rattle.meaning.specs.Render.{printedRefusal, printedDecode, renderedAfter, inputRefusal, renderDecode, rendered}
 use Rattle.meaning.specs.declared.Read.{Read}
 use Rattle.meaning.specs.declared.Read.the-variants.{Numbers, Refused}
 use Rattle.meaning.specs.declared.Refusal.{Refusal}
@@ -25,7 +25,7 @@ use Rattle.meaning.proofs.Demands.{numbers-to, direction-to}
 use Rattle.meaning.proofs.Rooms.{read-room, direction-room, decode-room}
 use Rattle.text.proofs.Numbers.{numbers-few}
 use Rattle.meaning.proofs.Numbered.{number-from}
-use Rattle.rendering.specs.Parts.{decodeOff, PrintsRead}
+use Rattle.rendering.specs.Parts.{decodeOff, printedRead}
 
 -- ════ a text that was read into a list
 
@@ -88,61 +88,58 @@ decode-places loaded direction =
 -- ════ what is printed
 
 -- the book is read, and the direction is refused or decoded
-module _ (loaded : List ℤ) (directionText out : List ℕ) where
-  pub direction-refused : {k : ℕ} (refusal : Refusal) → k ≡ number refusal → out ≡ printedRefusal (number refusal) → PrintsRead k loaded directionText out
-  direction-refused refusal e h = subst (λ (j : ℕ). PrintsRead j loaded directionText out) (sym e) (by (number refusal) (number-from refusal) h)
+module _ (loaded : List ℤ) (directionText : List ℕ) where
+  pub direction-refused : {k : ℕ} (refusal : Refusal) → k ≡ number refusal → printedRefusal (number refusal) ≡ printedRead k loaded directionText
+  direction-refused refusal e = by (number refusal) (number-from refusal) ∙ ap (λ (j : ℕ). printedRead j loaded directionText) (sym e)
     where
-      by : (j : ℕ) → 1 ≤ j → out ≡ printedRefusal j → PrintsRead j loaded directionText out
-      by zero l h = absurd (omega arith)
-      by (suc j) l h = h
+      by : (j : ℕ) → 1 ≤ j → printedRefusal j ≡ printedRead j loaded directionText
+      by zero l = absurd (omega arith)
+      by (suc j) l = refl
 
   pub direction-decoded : {k n : ℕ} {words : List ℕ} → Filled k n (directionOf directionText) words
-      → PrintsReply (bookOf loaded) (take n words) (decodeOff loaded (take n words)) out → PrintsRead k loaded directionText out
-  direction-decoded f h =
-      subst (λ (j : ℕ). PrintsRead j loaded directionText out) (sym (f .passes))
-      (subst (λ (d : List ℕ). PrintsReply (bookOf loaded) d (decodeOff loaded d) out) (f .part) h)
+      → printedDecode loaded (take n words) (decodeOff loaded (take n words)) ≡ printedRead k loaded directionText
+  direction-decoded f =
+      ap (λ (d : List ℕ). printedDecode loaded d (decodeOff loaded d)) (f .part)
+      ∙ ap (λ (j : ℕ). printedRead j loaded directionText) (sym (f .passes))
 
-module _ (bookText directionText out : List ℕ) where
+module _ (bookText directionText : List ℕ) where
   abbrev short : Bool
   short = leb (length bookText) 8_192 && leb (length directionText) 512
 
   abbrev rest : ℕ
   rest = readDirectionRefusal directionText (length (directionOf directionText))
 
-  refused-first : (k m : ℕ) → 1 ≤ k → out ≡ printedRefusal k → PrintsAfter (k orelse m) bookText directionText out
-  refused-first zero m h e = absurd (omega arith)
-  refused-first (suc k) m h e = e
+  refused-first : (k m : ℕ) → 1 ≤ k → printedRefusal k ≡ renderedAfter (k orelse m) bookText directionText
+  refused-first zero m h = absurd (omega arith)
+  refused-first (suc k) m h = refl
 
-  read-after : (k : ℕ) → PrintsRead k (loadedOf bookText) directionText out → PrintsAfter k bookText directionText out
+  read-after : (k : ℕ) → printedRead k (loadedOf bookText) directionText ≡ renderedAfter k bookText directionText
   unfolding renderDecode
-  read-after zero h =
-      subst (λ (r : Reply Outcome). PrintsReply (bookOf (loadedOf bookText)) (directionOf directionText) r out)
-      (decode-places (loadedOf bookText) (directionOf directionText)) h
-  read-after (suc k) h = h
+  read-after zero = ap (printedDecode (loadedOf bookText) (directionOf directionText)) (decode-places (loadedOf bookText) (directionOf directionText))
+  read-after (suc k) = refl
 
   -- "More bytes than that in either print `R,7`, before any question."
-  pub too-long : short ≡ false → out ≡ printedRefusal 7 → Renders bookText directionText out
-  unfolding Renders inputRefusal
-  too-long e h =
-      subst (λ (t : Bool). PrintsAfter (7 unless t orelse readRefusal bookText (length (loadedOf bookText)) orelse rest) bookText directionText out) (sym e) h
+  pub too-long : short ≡ false → printedRefusal 7 ≡ rendered bookText directionText
+  unfolding rendered inputRefusal
+  too-long e = rw e refl
 
   module _ (s : short ≡ true) where
-    asked : PrintsAfter (readRefusal bookText 8_192 orelse rest) bookText directionText out → Renders bookText directionText out
-    unfolding Renders inputRefusal
-    asked h =
-        subst (λ (t : Bool). PrintsAfter (7 unless t orelse readRefusal bookText (length (loadedOf bookText)) orelse rest) bookText directionText out) (sym s)
-        (subst (λ (k : ℕ). PrintsAfter (k orelse rest) bookText directionText out)
-        (book-places bookText (leb-true _ _ (both (leb (length bookText) 8_192) _ s .0))) h)
+    asked : renderedAfter (readRefusal bookText 8_192 orelse rest) bookText directionText ≡ rendered bookText directionText
+    unfolding rendered inputRefusal
+    asked =
+        rw s
+        (ap (λ (k : ℕ). renderedAfter (k orelse rest) bookText directionText)
+        (book-places bookText (leb-true _ _ (both (leb (length bookText) 8_192) _ s .0))))
 
-    pub book-refused : (refusal : Refusal) → readRefusal bookText 8_192 ≡ number refusal → out ≡ printedRefusal (number refusal) → Renders bookText directionText out
-    book-refused refusal e h =
-        asked (subst (λ (j : ℕ). PrintsAfter (j orelse rest) bookText directionText out) (sym e) (refused-first (number refusal) rest (number-from refusal) h))
+    pub book-refused : (refusal : Refusal) → readRefusal bookText 8_192 ≡ number refusal → printedRefusal (number refusal) ≡ rendered bookText directionText
+    book-refused refusal e =
+        refused-first (number refusal) rest (number-from refusal)
+        ∙ ap (λ (k : ℕ). renderedAfter (k orelse rest) bookText directionText) (sym e) ∙ asked
 
     pub book-read : {n : ℕ} {after : List ℤ} → Filled (readRefusal bookText 8_192) n (loadedOf bookText) after
-        → PrintsRead (readDirectionRefusal directionText 32) (take n after) directionText out → Renders bookText directionText out
-    book-read f h =
-        asked
-        (subst (λ (j : ℕ). PrintsAfter (j orelse rest) bookText directionText out) (sym (f .passes))
-        (subst (λ (j : ℕ). PrintsAfter j bookText directionText out) (direction-places directionText)
-        (read-after (readDirectionRefusal directionText 32)
-        (subst (λ (l : List ℤ). PrintsRead (readDirectionRefusal directionText 32) l directionText out) (f .part) h))))
+        → printedRead (readDirectionRefusal directionText 32) (take n after) directionText ≡ rendered bookText directionText
+    book-read f =
+        ap (λ (l : List ℤ). printedRead (readDirectionRefusal directionText 32) l directionText) (f .part)
+        ∙ read-after (readDirectionRefusal directionText 32)
+        ∙ ap (λ (k : ℕ). renderedAfter k bookText directionText) (direction-places directionText)
+        ∙ ap (λ (k : ℕ). renderedAfter (k orelse rest) bookText directionText) (sym (f .passes)) ∙ asked

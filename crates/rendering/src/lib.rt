@@ -4,11 +4,11 @@ ghost use mathlib.Core.Bool.{_&&_};
 ghost use Prim.Native.Nat.{_≤_};
 ghost use lib.Dec.{leb};
 ghost use lib.ListN.{length};
-ghost use Rattle.meaning.specs.Book.{bookOf};
 ghost use Rattle.meaning.specs.Direction.{readDirectionRefusal};
-ghost use Rattle.meaning.specs.Render.{PrintsReply, Renders};
+ghost use Rattle.meaning.specs.Reply.{writtenOver};
+ghost use Rattle.meaning.specs.Render.{printedDecode, rendered};
 ghost use Rattle.decimals.specs.Put.{Put};
-ghost use Rattle.rendering.specs.Parts.{Begins, Fits, FitsDecoded, printedDone, printedDecoded, decodeOff, PrintsRead};
+ghost use Rattle.rendering.specs.Parts.{Fits, FitsDecoded, printedDone, printedDecoded, decodeOff, printedRead};
 use meaning::Answer;
 use meaning::Decoded;
 use meaning::Read;
@@ -50,7 +50,7 @@ fn put_decoded(out: &mut [u8], decoded: Decoded, numbers: &[u16], words: &[u16])
 // Decodes with pruning off and a store of 512 states, and puts the reply.
 fn put_decode(out: &mut [u8], book: &[i32], direction: &[u16]) -> usize
     requires { ⌜ 4_096 ≤ length (now out) ⌝ }
-    ensures { λ r. ⌜ Begins (PrintsReply (bookOf (now (book .entry))) (now (direction .entry)) (decodeOff (now (book .entry)) (now (direction .entry)))) r (now (out .entry)) (now (out .exit)) ⌝ }
+    ensures { λ r. ⌜ Put (printedDecode (now (book .entry)) (now (direction .entry)) (decodeOff (now (book .entry)) (now (direction .entry)))) 0 r (now (out .entry)) (now (out .exit)) ⌝ }
 {
     let mut words = [0u16; 256];
     let mut store = [0i64; 4096];
@@ -63,7 +63,7 @@ fn put_decode(out: &mut [u8], book: &[i32], direction: &[u16]) -> usize
 // Reads the direction's text once the book is read, decodes, and puts the reply.
 fn put_direction(out: &mut [u8], book: &[i32], text: &[u8]) -> usize
     requires { ⌜ 4_096 ≤ length (now out) ⌝ }
-    ensures { λ r. ⌜ Begins (PrintsRead (readDirectionRefusal (now (text .entry)) 32) (now (book .entry)) (now (text .entry))) r (now (out .entry)) (now (out .exit)) ⌝ }
+    ensures { λ r. ⌜ Put (printedRead (readDirectionRefusal (now (text .entry)) 32) (now (book .entry)) (now (text .entry))) 0 r (now (out .entry)) (now (out .exit)) ⌝ }
 {
     let mut words = [0u16; 32];
     match direction::read_direction(text, &mut words) {
@@ -75,7 +75,8 @@ fn put_direction(out: &mut [u8], book: &[i32], text: &[u8]) -> usize
 // What the program prints for the bytes of `book.txt` and of standard input: puts it at the beginning of `out`, and says how many
 // bytes it is; the places beyond are as before. Of longer inputs the first 8,193 and 513 bytes are enough.
 pub fn render(book: &[u8], direction: &[u8], out: &mut [u8; 4096]) -> usize
-    ensures { λ r. ⌜ Begins (Renders (now (book .entry)) (now (direction .entry))) r (now (out .entry)) (now (out .exit)) ⌝ }
+    ensures { λ r. ⌜ r ≡ length (rendered (now (book .entry)) (now (direction .entry))) ⌝ }
+    ensures { λ _. ⌜ now (out .exit) ≡ writtenOver (rendered (now (book .entry)) (now (direction .entry))) (now (out .entry)) ⌝ }
 {
     if !are_short(book, direction) {
         return printing::put_refusal(out, 0, Refusal::ListTooShort);

@@ -8,12 +8,14 @@ use mathlib.Core.Option.{some}
 use native.Mathlib.Omega.{arith}
 use lib.IntN.{ℤ, _+ℤ_}
 use lib.ListN.{length}
-use lib.Signed.{ltZ}
-use Rattle.laws.proofs.Orders.{Weak, weak-irrefl, more, more-weak, ltZ-add, lex, lex-both, lex-rest, lex-asym, lex-ntrans}
+use lib.Signed.{ltZ, _≤ℤ_}
+use Rattle.laws.proofs.Order.{no-<}
+use Rattle.laws.proofs.Linear.{signed}
+use Rattle.laws.proofs.Orders.{Weak, weak-irrefl, more, more-weak, ltZ-add, lex, lex-both, lex-not, lex-tie, lex-rest, lex-asym, lex-ntrans}
 use Rattle.laws.proofs.Tests.{by-test}
-use Rattle.search_theory.specs.Search.{Problem, St, extend, closed, best}
+use Rattle.search_theory.specs.Search.{Hypothesis, Problem, St, extend, closed, best}
 use Rattle.search_theory.specs.Orders.{before, ahead}
-use Rattle.search_theory.specs.Statements.{after, Allowed, of, Legal, Steady, Ranked, Unpruned}
+use Rattle.search_theory.specs.Statements.{after, total, Allowed, of, Legal, Steady, Ranked, Unpruned}
 use Rattle.search_theory.proofs.Sound.{after-append, allowed-rest}
 use Rattle.search_theory.proofs.Sets.{longer}
 use Rattle.search_theory.proofs.Optimal.{optimal}
@@ -57,6 +59,18 @@ module _ {Step : Type 0} (less : Step → Step → Bool) (W : Weak less) where
         ap₂ {C = List Step} _∷_ (tot x y (r .0) (r .1)) (before-total xs ys (r .2) (r .3))
 
 -- ---- the order of states
+module _ {Key Step : Type 0} (less : Step → Step → Bool) (a b : Hypothesis Key Step) where
+  -- a state that is not ahead has no greater score
+  pub no-higher : ahead less a b ≡ false → a .score ≤ℤ b .score
+  no-higher e = no-< (b .score) (a .score) (lex-not (ltZ (b .score) (a .score)) (ltZ (a .score) (b .score)) (before less (a .steps) (b .steps)) e)
+
+  -- and where the scores are equal its steps do not come before
+  pub no-earlier : a .score ≡ b .score → ahead less a b ≡ false → before less (a .steps) (b .steps) ≡ false
+  no-earlier s e =
+      let c : ltZ (b .score) (a .score) ≡ false = omega (arith, signed) in
+      let d : ltZ (a .score) (b .score) ≡ false = omega (arith, signed) in
+      sym (lex-tie (ltZ (b .score) (a .score)) (ltZ (a .score) (b .score)) (before less (a .steps) (b .steps)) c d) ∙ e
+
 module _ (P : Problem) (S : Steady P) (less : P .Step → P .Step → Bool) (W : Weak less)
     (tot : (x y : P .Step) → less x y ≡ false → less y x ≡ false → x ≡ y)
     (is : (a b : St P) → P .better a b ≡ ahead less a b) where
@@ -107,3 +121,15 @@ module _ (P : Problem) (S : Steady P) (less : P .Step → P .Step → Bool) (W :
 
       parts : ahead less t u ≡ false → (ltZ (u .score) (t .score) ≡ false) × (ltZ (t .score) (u .score) ≡ false) × (before less (t .steps) ys ≡ false) × (before less ys (t .steps) ≡ false)
       parts h = lex-both (ltZ (u .score) (t .score)) (ltZ (t .score) (u .score)) (before less (t .steps) ys) (before less ys (t .steps)) h (sym (is u t) ∙ optimal P S ranked U t e ys a z)
+
+  -- no allowed sequence to the last set has a higher score than the answer ..
+  pub highest-score : Unpruned P → (t : St P) → best P ≡ some t → (ys : List Step) → Allowed P start ys → size (after P start ys) ≡ n
+      → (total P start ys +ℤ close (after P start ys)) ≤ℤ t .score
+  unfolding of closed
+  highest-score U t e ys a z = no-higher less (closed P (of P ys)) t (sym (is (closed P (of P ys)) t) ∙ optimal P S ranked U t e ys a z)
+
+  -- .. and none of its score comes before it
+  pub none-earlier : Unpruned P → (t : St P) → best P ≡ some t → (ys : List Step) → Allowed P start ys → size (after P start ys) ≡ n
+      → total P start ys +ℤ close (after P start ys) ≡ t .score → before less ys (t .steps) ≡ false
+  unfolding of closed
+  none-earlier U t e ys a z s = no-earlier less (closed P (of P ys)) t s (sym (is (closed P (of P ys)) t) ∙ optimal P S ranked U t e ys a z)

@@ -8,7 +8,6 @@ pub mod Optimal
 pub mod Count
 pub mod Store
 pub mod Beams
-pub mod ByScore
 pub mod Lexical
 pub mod Array
 pub mod Trace

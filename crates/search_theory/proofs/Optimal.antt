@@ -69,6 +69,17 @@ module _ (P : Problem) (S : Steady P) (R : Ranked P) where
       → (p : Step) → List·Memᴰ p options → may (t .key) p ≡ true → Covered P (upto P (suc i)) (extend P t p)
   upto-hit i t m z k p o y = subst (λ (l : List (St P)). Covered P l (extend P t p)) (upto-sweep P i) (sweep-hit i (setOf P i (upto P i)) (upto P i) t m z k p o y (upto P i))
 
+  -- ---- of equal states the better stays, for any beam: no extension of a state in the beam is better than the state with its key
+  pub stays : (t : St P) → List·Memᴰ t (run P) → inBeam (setOf P (size (t .key)) (upto P (size (t .key)))) t ≡ true
+      → (p : Step) → List·Memᴰ p options → may (t .key) p ≡ true → Covered P (run P) (extend P t p)
+  unfolding run
+  stays t k b p o y =
+      let g : Legal P t = upto-legal P n t k in
+      let i : ℕ = size (t .key) in
+      let lt : i < n = le-trans (grows t g p o y) (bound t g p o y) in
+      let m : List·Memᴰ t (upto P i) = settled P S i n (omega arith) t (le-refl i) k in
+      upto-cover (extend P t p) (suc i) n lt (upto-hit i t m refl b p o y)
+
   -- ---- the answer, for any beam
 
   -- it is a state of the last set, closed, that none of the set is better than

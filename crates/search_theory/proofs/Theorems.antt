@@ -7,12 +7,12 @@ use mathlib.Core.List.{List, [], List·Memᴰ}
 use mathlib.Core.Option.{none, some}
 use lib.IntN.{_+ℤ_}
 use lib.ListN.{length}
-use lib.Signed.{ltZ, _≤ℤ_}
+use lib.Signed.{_≤ℤ_}
 use Rattle.laws.specs.Lists.{Distinct}
 use Rattle.laws.proofs.Orders.{Weak}
-use Rattle.search_theory.specs.Search.{Problem, St, setOf, upto, run, closed, best}
+use Rattle.search_theory.specs.Search.{Problem, St, extend, setOf, upto, run, closed, best}
 use Rattle.search_theory.specs.Loops.{grow, sweep}
-use Rattle.search_theory.specs.Orders.{ahead}
+use Rattle.search_theory.specs.Orders.{before, ahead}
 use Rattle.search_theory.specs.Statements.{after, total, Allowed, of, Legal, Reachable, keys, small, Covered, Steady, Ranked, Unpruned, withBeam, uptoIn}
 use Rattle.search_theory.proofs.Sound as Sound
 use Rattle.search_theory.proofs.Longer as Longer
@@ -21,7 +21,6 @@ use Rattle.search_theory.proofs.Optimal as Optimal
 use Rattle.search_theory.proofs.Count as Count
 use Rattle.search_theory.proofs.Store as Store
 use Rattle.search_theory.proofs.Beams as Beams
-use Rattle.search_theory.proofs.ByScore as ByScore
 use Rattle.search_theory.proofs.Lexical as Lexical
 
 -- ---- 1. Soundness: any beam, no law
@@ -58,12 +57,17 @@ module _ (P : Problem) (S : Steady P) where
 
 -- ---- 3. The answer
 module _ (P : Problem) (S : Steady P) (R : Ranked P) where
-  open Problem P using (Key, Step, start, size, n, better)
+  open Problem P using (Key, Step, start, options, may, size, n, better, inBeam)
 
   -- any beam: the answer is a state of the last set, with what it gains at the end, and none of that set is better at the end
   pub answered : (t : St P) → best P ≡ some t
       → (s : St P) × List·Memᴰ s (setOf P n (run P)) × (t ≡ closed P s) × ((u : St P) → List·Memᴰ u (setOf P n (run P)) → better (closed P u) t ≡ false)
   answered = Optimal.answered P S R
+
+  -- of equal states the better stays: no extension of a state in the beam is better than the state with its key
+  pub stays : (t : St P) → List·Memᴰ t (run P) → inBeam (setOf P (size (t .key)) (upto P (size (t .key)))) t ≡ true
+      → (p : Step) → List·Memᴰ p options → may (t .key) p ≡ true → Covered P (run P) (extend P t p)
+  stays = Optimal.stays P S R
 
   -- a beam that drops nothing
   module _ (U : Unpruned P) where
@@ -120,26 +124,21 @@ module _ (P : Problem) (b : List (St P) → St P → Bool) (U : Unpruned P) (U�
   pub same-best : best P ≡ best (withBeam P b)
   same-best = Beams.same-best P b U U′
 
--- ---- 6. Two orders
-
--- a greater score is better
-module _ (P : Problem) (is : (a b : St P) → P .better a b ≡ ltZ (b .score) (a .score)) (S : Steady P) (U : Unpruned P) where
-  open Problem P using (Step, start, size, n, close)
-
-  -- each allowed sequence's key has a state with at least its score
-  pub reached-as-well : (ys : List Step) → Allowed P start ys → (t : St P) × List·Memᴰ t (run P) × (t .key ≡ after P start ys) × (total P start ys ≤ℤ t .score)
-  reached-as-well = ByScore.reached-as-well P is S U
-
-  -- no allowed sequence that ends in the last set has a higher score than the answer, with what it gains at the end
-  pub highest-score : (t : St P) → best P ≡ some t → (ys : List Step) → Allowed P start ys → size (after P start ys) ≡ n
-      → (total P start ys +ℤ close (after P start ys)) ≤ℤ t .score
-  highest-score = ByScore.highest-score P is S U
-
--- a greater score is better, and among equal scores the steps that come first
+-- ---- 6. A greater score is better, and among equal scores the steps that come first
 module _ (P : Problem) (S : Steady P) (less : P .Step → P .Step → Bool) (W : Weak less)
     (tot : (x y : P .Step) → less x y ≡ false → less y x ≡ false → x ≡ y)
     (is : (a b : St P) → P .better a b ≡ ahead less a b) (U : Unpruned P) where
-  open Problem P using (Step, start, size, n)
+  open Problem P using (Step, start, size, n, close)
+
+  -- no allowed sequence that ends in the last set has a higher score than the answer, with what it gains at the end ..
+  pub highest-score : (t : St P) → best P ≡ some t → (ys : List Step) → Allowed P start ys → size (after P start ys) ≡ n
+      → (total P start ys +ℤ close (after P start ys)) ≤ℤ t .score
+  highest-score = Lexical.highest-score P S less W tot is U
+
+  -- .. and none of its score comes before it
+  pub none-earlier : (t : St P) → best P ≡ some t → (ys : List Step) → Allowed P start ys → size (after P start ys) ≡ n
+      → total P start ys +ℤ close (after P start ys) ≡ t .score → before less ys (t .steps) ≡ false
+  none-earlier = Lexical.none-earlier P S less W tot is U
 
   -- there is one best sequence, and it is the answer's: any other that ends in the last set has a lower score, or the same and comes later
   pub unique : (t : St P) → best P ≡ some t → (ys : List Step) → Allowed P start ys → size (after P start ys) ≡ n

@@ -107,7 +107,7 @@ pub fn search(
             state: State::start(),
             size: 0,
             parent: 0,
-            option: 0,
+            step: 0,
         },
     );
     let mut c = 1;

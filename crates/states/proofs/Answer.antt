@@ -1,7 +1,7 @@
 -- One turn of each loop that reads the store, and what the loops come to: the best score of a set, and the search's answer.
-use mathlib.Core.Path.{_≡_, refl, sym, _∙_, ap, ap₂}
+use mathlib.Core.Path.{_≡_, refl, sym, _∙_, ap}
 use mathlib.Core.Bool.{Bool, true, false, cond}
-use mathlib.Core.List.{List, [], _∷_, map}
+use mathlib.Core.List.{List, [], _∷_, _++_, map}
 use mathlib.Core.Option.{Option, some}
 use Prim.Native.Nat.{ℕ, _+_, _<_, _≤_}
 use native.Mathlib.Numerals.{add-one}
@@ -15,21 +15,25 @@ use borrow.Author.Tests.{eq-eqb, ne-eqb}
 use Rattle.laws.specs.Integers.{eqℤ}
 use Rattle.laws.specs.Lists.{maxFrom, larger}
 use Rattle.laws.proofs.Linear.{signed, sum, dif}
-use Rattle.laws.proofs.Tests.{bool-ind, by-test}
+use Rattle.laws.proofs.Tests.{by-test, ap-cond}
 use Rattle.search_theory.specs.Search.{wins}
 use Rattle.search_theory.specs.Loops.{pick, closing}
 use Rattle.search_theory.proofs.Array.{pick-at, pick-end}
 use Rattle.meaning.specs.State.{Hyp, wordsCovered, isBetter}
 use Rattle.meaning.specs.Search.{bestScore}
-use Rattle.meaning.specs.declared.State.{State}
 use Rattle.store.specs.Store.{placeAt}
-use Rattle.states.specs.Order.{surpasses}
-use Rattle.states.specs.Shows.{nobody, Lists}
+use Rattle.store.specs.declared.Place.{Place}
+use Rattle.ways.specs.Back.{nobody}
+use Rattle.ways.specs.Codes.{stepOf}
+use Rattle.ways.specs.Ties.{Walked}
+use Rattle.states.specs.Order.{Tested}
+use Rattle.states.specs.Shows.{Lists}
 use Rattle.states.specs.Ghost.{inWidth}
-use Rattle.states.specs.Answer.{sized, raised, untaken, topFrom, closedAt, beats, chosenOf, Below, noClose, picked}
+use Rattle.states.specs.Answer.{sized, raised, untaken, topFrom, closedAt, Below, noClose, picked, withPlace}
 use Rattle.store.specs.declared.Found.{Found}
 use Rattle.store.specs.declared.Found.the-variants.{At, Nothing}
 use Rattle.states.specs.declared.Top.{Top}
+use Rattle.states.proofs.Testing.{tested-is, places-beside}
 
 -- ════ the best score
 from-some : (i : ℕ) (t : ℤ) (l : List Hyp) → topFrom i (record { any = true; score = t }) l ≡ record { any = true; score = maxFrom t (map (λ s. s .score) (sized i l)) }
@@ -102,64 +106,54 @@ pub within-on : (w top s : ℤ) → eqℤ w (negsuc 0) ≡ false → leZ (top -�
 within-on w top s e = swap top s w ∙ rw e
 
 -- ════ the best state
-pub chosen-other : (n : ℕ) (st : List ℤ) (b : Found) (k : ℕ) → (placeAt st k .size ≡ n → ⊥) → b ≡ chosenOf n st b k
-unfolding chosenOf
-chosen-other n st b k z = rw (ne-eqb (placeAt st k .size) n z)
-
-pub chosen-hit : (n : ℕ) (st : List ℤ) (b c : Found) (k : ℕ) → placeAt st k .size ≡ n → b ≡ c → beats n st c k ≡ chosenOf n st b k
-unfolding chosenOf
-chosen-hit n st b c k z e = ap (λ (d : Found). beats n st d k) (sym e) ∙ rw (eq-eqb (placeAt st k .size) n z)
-
-pub beats-by : (n : ℕ) (st : List ℤ) (j k : ℕ) (b : Bool) → surpasses (closedAt n (placeAt st k .state)) (closedAt n (placeAt st j .state)) ≡ b → cond b (At k) (At j) ≡ beats n st (At j) k
-beats-by n st j k b e = rw e
-
-below-on : (b : Found) (k : ℕ) → Below k b → Below (k + 1) b
-below-on Nothing k h = tt
-below-on (At j) k h = omega arith
-
-beats-below : (n : ℕ) (st : List ℤ) (b : Found) (k : ℕ) → Below k b → Below (k + 1) (beats n st b k)
-beats-below n st Nothing k h = omega arith
-beats-below n st (At j) k h = bool-ind (surpasses (closedAt n (placeAt st k .state)) (closedAt n (placeAt st j .state))) (λ c. Below (k + 1) (cond c (At k) (At j))) (λ _. omega arith) (λ _. omega arith)
-
-pub chosen-below : (n : ℕ) (st : List ℤ) (b : Found) (k : ℕ) → Below k b → Below (k + 1) (chosenOf n st b k)
-unfolding chosenOf
-chosen-below n st b k h = bool-ind (eqb (placeAt st k .size) n) (λ c. Below (k + 1) (cond c (beats n st b k) b)) (λ _. beats-below n st b k h) (λ _. below-on b k h)
-
 -- a state gains nothing at the end
-pub closed-same : (n : ℕ) (x : State) → x ≡ closedAt n x
+pub closed-same : (n : ℕ) (x : Place) → x ≡ closedAt n x
 closed-same n x =
-    let e : x .score ≡ x .score +ℤ pos 0 = omega (arith, signed, sum (x .score) (pos 0)) in
-    λ i. record { word1 = x .word1; word2 = x .word2; covered = x .covered; r = x .r; score = e i }
+    let s = x .state in
+    let e : s .score ≡ s .score +ℤ pos 0 = omega (arith, signed, sum (s .score) (pos 0)) in
+    λ i. record { state = record { word1 = s .word1; word2 = s .word2; covered = s .covered; r = s .r; score = e i }; size = x .size; parent = x .parent; step = x .step }
 
 closing-same : (s : Hyp) → closing noClose s ≡ s
 closing-same s =
     let e : s .score +ℤ pos 0 ≡ s .score = omega (arith, signed, sum (s .score) (pos 0)) in
     λ i. record { key = s .key; score = e i; steps = s .steps }
 
+pub below-on : (n : ℕ) (st : List ℤ) (b : Found) (k : ℕ) → Below n st k b → Below n st (k + 1) b
+below-on n st Nothing k h = tt
+below-on n st (At j) k h = (omega arith, h .1)
+
 module _ (n : ℕ) (st : List ℤ) (count : ℕ) (l : List Hyp) (L : Lists n st count l) where
   abbrev best-of : Option Hyp → List Hyp → Option Hyp
   best-of = pick wordsCovered n noClose isBetter
 
-  beats-is : (b : Found) (k : ℕ) → Below k b → k < count → picked l (beats n st b k) ≡ wins isBetter (picked l b) (getD l k nobody)
-  unfolding isBetter
-  beats-is Nothing k h m = refl
-  beats-is (At j) k h m =
-      bool-ind (surpasses (closedAt n (placeAt st k .state)) (closedAt n (placeAt st j .state))) (λ c. picked l (cond c (At k) (At j)) ≡ cond c (some (getD l k nobody)) (some (getD l j nobody))) (λ _. refl) (λ _. refl)
-      ∙ ap (λ (c : Bool). cond c (some (getD l k nobody)) (some (getD l j nobody)))
-      (sym (ap₂ surpasses (closed-same n (placeAt st k .state)) (closed-same n (placeAt st j .state)))
-      ∙ ap (λ (z : ℤ). ltZ z (placeAt st k .state .score)) (L .each j (omega arith) .score-is) ∙ ap (ltZ (getD l j nobody .score)) (L .each k m .score-is))
+  -- the place k beside the best so far: it is of another size ..
+  pub chosen-other : (b : Found) (k : ℕ) → (placeAt st k .size ≡ n → ⊥) → picked l b ≡ withPlace n st l b k
+  chosen-other b k z = rw (ne-eqb (placeAt st k .size) n z)
 
-  chosen-is : (b : Found) (k : ℕ) → Below k b → k < count
-      → picked l (chosenOf n st b k) ≡ cond (eqb (wordsCovered (getD l k nobody .key)) n) (wins isBetter (picked l b) (closing noClose (getD l k nobody))) (picked l b)
-  unfolding chosenOf
-  chosen-is b k h m =
-      bool-ind (eqb (placeAt st k .size) n) (λ c. picked l (cond c (beats n st b k) b) ≡ cond c (wins isBetter (picked l b) (getD l k nobody)) (picked l b)) (λ _. beats-is b k h m) (λ _. refl)
-      ∙ ap (λ (z : ℕ). cond (eqb z n) (wins isBetter (picked l b) (getD l k nobody)) (picked l b)) (size-at n st count l L k m)
-      ∙ ap (λ (s : Hyp). cond (eqb (wordsCovered (getD l k nobody .key)) n) (wins isBetter (picked l b) s) (picked l b)) (sym (closing-same (getD l k nobody)))
+  -- .. the first ..
+  pub chosen-first : (b : Found) (k : ℕ) → placeAt st k .size ≡ n → b ≡ Nothing → picked l (At k) ≡ withPlace n st l b k
+  chosen-first b k z e = ap some (sym (closing-same (getD l k nobody))) ∙ rw (eq-eqb (placeAt st k .size) n z, e)
 
-  pub pick-turn : (b : Found) (k : ℕ) → Below k b → k < count → best-of (picked l (chosenOf n st b k)) (drop (k + 1) l) ≡ best-of (picked l b) (drop k l)
-  pick-turn b k h m =
-      ap (λ (z : Option Hyp). best-of z (drop (k + 1) l)) (chosen-is b k h m)
+  -- .. or the better of two
+  pub chosen-better : Walked st l → (b : Found) (j k : ℕ) (x y : Place) {r : Bool} → x ≡ closedAt n (placeAt st k) → y ≡ closedAt n (placeAt st j) → j < k → k < count
+      → placeAt st k .size ≡ n → placeAt st j .size ≡ n → b ≡ At j → Tested st x (y .state) j r → picked l (cond r (At k) (At j)) ≡ withPlace n st l b k
+  chosen-better W b j k x y {r} ex ey h c z zj q t =
+      let e : x ≡ placeAt st k = ex ∙ sym (closed-same n (placeAt st k)) in
+      let f : y ≡ placeAt st j = ey ∙ sym (closed-same n (placeAt st j)) in
+      let v = W .chains .links k (omega arith) (omega (arith, L .long)) in
+      let is : isBetter (getD l k nobody) (getD l j nobody) ≡ r =
+      tested-is x (y .state) j (places-beside W x e h (omega (arith, L .long)) (zj ∙ sym z)) t (getD l k nobody) (getD l j nobody)
+      (ap (λ (p : Place). p .state .score) e ∙ L .each k c .score-is) (ap (λ (p : Place). p .state .score) f ∙ L .each j (omega arith) .score-is)
+      (v .steps-are ∙ ap (λ (p : Place). getD l (p .parent) nobody .steps ++ (stepOf (p .step) ∷ [])) (sym e)) refl in
+      ap-cond (picked l) r (At k) (At j)
+      ∙ ap (λ (d : Bool). cond d (some (getD l k nobody)) (some (getD l j nobody))) (sym is)
+      ∙ ap (wins isBetter (some (getD l j nobody))) (sym (closing-same (getD l k nobody)))
+      ∙ rw (eq-eqb (placeAt st k .size) n z, q)
+
+  pub pick-turn : (b r : Found) (k : ℕ) → k < count → picked l r ≡ withPlace n st l b k → best-of (picked l r) (drop (k + 1) l) ≡ best-of (picked l b) (drop k l)
+  pick-turn b r k m e =
+      ap (λ (z : Option Hyp). best-of z (drop (k + 1) l))
+      (e ∙ ap (λ (z : ℕ). cond (eqb z n) (wins isBetter (picked l b) (closing noClose (getD l k nobody))) (picked l b)) (size-at n st count l L k m))
       ∙ rw add-one (sym (pick-at wordsCovered n noClose isBetter (picked l b) l k nobody (omega (arith, L .long))))
 
   pub pick-ends : (b : Found) (k : ℕ) → count ≤ k → best-of (picked l b) (drop k l) ≡ picked l b

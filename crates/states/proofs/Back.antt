@@ -1,107 +1,64 @@
--- The walk back along the parents, one turn at a time.
-use mathlib.Core.Path.{_≡_, refl, sym, _∙_, ap, subst}
+-- The ways of the store that the search keeps.
+use mathlib.Core.Path.{_≡_, sym, _∙_, ap, subst}
 use mathlib.Core.Logic.{⊎-elim}
-use mathlib.Core.List.{List, [], _∷_, _++_}
-use Prim.Native.Nat.{ℕ, _+_, _-_, _<_, _≤_}
-use native.Mathlib.Decide.{ℕ-discrete}
+use mathlib.Core.List.{List}
+use Prim.Native.Nat.{ℕ, _<_, _≤_}
 use native.Mathlib.Omega.{arith}
-use borrow.Author.Tests.{ltb-true, ltb-false}
-use lib.Dec.{ltb}
 use lib.IntN.{ℤ}
-use lib.ListN.{length, getD, set, length-append, List·getD-append}
-use lib.Seq.{getD-set-same, getD-set-other, getD-append-seam}
+use lib.ListN.{length, getD}
 use Rattle.laws.proofs.Lists.{getD-mem}
-use Rattle.laws.proofs.Tests.{by-test}
 use Rattle.search_theory.specs.Search.{first, upto}
+use Rattle.search_theory.specs.Statements.{Legal, after}
 use Rattle.search_theory.proofs.Sets.{longer}
 use Rattle.search_theory.proofs.Sound.{legal-first, upto-legal}
 use Rattle.meaning.specs.Book.{Book}
 use Rattle.meaning.specs.Direction.{wordCount}
 use Rattle.meaning.specs.State.{Hyp, start, wordsCovered}
-use Rattle.meaning.specs.Search.{fittingSteps, search}
-use Rattle.meaning.specs.declared.Step.{Step}
+use Rattle.meaning.specs.Search.{search}
+use Rattle.meaning.proofs.Cover.{none-covered}
 use Rattle.meaning.proofs.Instance.{steady}
 use Rattle.store.specs.Store.{placeAt}
-use Rattle.meaning.specs.Derivation.{noStep}
-use Rattle.states.specs.Shows.{nobody}
-use Rattle.states.specs.Ghost.{optionAt, Starting}
-use Rattle.states.specs.Back.{Linked, Chains, Way, Behind}
-use Rattle.store.specs.declared.Place.{Place}
+use Rattle.ways.specs.Back.{nobody, Chains}
+use Rattle.ways.specs.Ties.{Walked}
+use Rattle.states.specs.Ghost.{Held, Starting}
 use Rattle.states.proofs.Showing.{size-small}
 
-module _ {f : ℕ → Step} {m : ℕ} {st : List ℤ} {l : List Hyp} (C : Chains f m st l) where
-  -- the first place is the start state's
-  pub at-root : {at : ℕ} → at ≤ 0 → length (getD l at nobody .steps) ≡ 0
-  at-root {at} z = let e : at ≡ 0 = omega arith in ap (λ (k : ℕ). length (getD l k nobody .steps)) e ∙ ap length (C .root)
-
-  -- a place with steps is another
-  pub no-root : {at : ℕ} → 0 < length (getD l at nobody .steps) → 0 < at
-  no-root {at} p = by-test (ltb 0 at) (ltb-true 0 at) (λ e. absurd (omega (arith, at-root {at = at} (ltb-false 0 at e))))
-
-  pub one-less : {at : ℕ} → (v : Linked f m st l at) → length (getD l at nobody .steps) ≡ length (getD l (placeAt st at .parent) nobody .steps) + 1
-  one-less {at} v = ap length (v .steps-are) ∙ length-append (getD l (placeAt st at .parent) nobody .steps) (f (placeAt st at .option) ∷ [])
-
-  -- ---- one step back, for `depth`
-  pub deeper : (k at d : ℕ) (x : Place) → 0 < at → at < length l → x ≡ placeAt st at → length (getD l at nobody .steps) + d ≡ length (getD l k nobody .steps)
-      → (x .parent < length l) × (length (getD l (x .parent) nobody .steps) + (d + 1) ≡ length (getD l k nobody .steps))
-  deeper k at d x p h e q =
-      let v = C .links at p h in
-      subst (λ (y : Place). (y .parent < length l) × (length (getD l (y .parent) nobody .steps) + (d + 1) ≡ length (getD l k nobody .steps))) (sym e)
-      (v .inside, omega (arith, one-less v))
-
-  -- ---- and for `path`
-  pub back-goes : (k d : ℕ) (out : List ℕ) (at left : ℕ) (x : Place) → 0 < left → left ≤ d → d ≤ length out → x ≡ placeAt st at
-      → Behind f m l k d out at left → Behind f m l k d (set out (left - 1) (x .option)) (x .parent) (left - 1)
-  back-goes k d out at left x p q r e B =
-      let v : Linked f m st l at = C .links at (no-root (omega (arith, B .long))) (B .inside) in
-      let less : length (getD l (placeAt st at .parent) nobody .steps) ≡ left - 1 = omega (arith, one-less v, B .long) in
-      subst (λ (y : Place). Behind f m l k d (set out (left - 1) (y .option)) (y .parent) (left - 1)) (sym e)
-      (record {
-        inside = v .inside;
-        long = less;
-        front = λ i h.
-            B .front i (omega arith) ∙ ap (λ (ss : List Step). getD ss i noStep) (v .steps-are)
-            ∙ List·getD-append (getD l (placeAt st at .parent) nobody .steps) (f (placeAt st at .option) ∷ []) noStep i (omega arith);
-        option-in = λ i h g. option v i h g (ℕ-discrete i (left - 1));
-        step-is = λ i h g. step v less i h g (ℕ-discrete i (left - 1));
-      })
-    where
-      option : Linked f m st l at → (i : ℕ) → left - 1 ≤ i → i < d → Dec (i ≡ left - 1) → getD (set out (left - 1) (placeAt st at .option)) i 0 < m
-      option v i h g (yes z) =
-          subst (λ (j : ℕ). getD (set out (left - 1) (placeAt st at .option)) j 0 < m) (sym z)
-          (subst (λ (o : ℕ). o < m) (sym (getD-set-same out (left - 1) (placeAt st at .option) 0 (omega arith))) (v .option-in))
-      option v i h g (no z) =
-          subst (λ (o : ℕ). o < m) (sym (getD-set-other out (left - 1) i (placeAt st at .option) 0 z)) (B .option-in i (omega arith) g)
-
-      step : Linked f m st l at → length (getD l (placeAt st at .parent) nobody .steps) ≡ left - 1 → (i : ℕ) → left - 1 ≤ i → i < d → Dec (i ≡ left - 1)
-          → f (getD (set out (left - 1) (placeAt st at .option)) i 0) ≡ getD (getD l k nobody .steps) i noStep
-      step v less i h g (yes z) =
-          subst (λ (j : ℕ). f (getD (set out (left - 1) (placeAt st at .option)) j 0) ≡ getD (getD l k nobody .steps) j noStep) (sym z)
-          (ap f (getD-set-same out (left - 1) (placeAt st at .option) 0 (omega arith))
-          ∙ sym (getD-append-seam (getD l (placeAt st at .parent) nobody .steps) (f (placeAt st at .option)) [] noStep)
-          ∙ ap (λ (j : ℕ). getD (getD l (placeAt st at .parent) nobody .steps ++ (f (placeAt st at .option) ∷ [])) j noStep) less
-          ∙ sym (B .front (left - 1) (omega arith) ∙ ap (λ (ss : List Step). getD ss (left - 1) noStep) (v .steps-are)))
-      step v less i h g (no z) = ap f (getD-set-other out (left - 1) i (placeAt st at .option) 0 z) ∙ B .step-is i (omega arith) g
-
-pub back-starts : {f : ℕ → Step} {m : ℕ} {l : List Hyp} {k d : ℕ} {out : List ℕ} → k < length l → d ≡ length (getD l k nobody .steps) → Behind f m l k d out k d
-back-starts h e = record { inside = h; long = sym e; front = λ i g. refl; option-in = λ i a b. absurd (omega arith); step-is = λ i a b. absurd (omega arith) }
-
-pub back-ends : {f : ℕ → Step} {m : ℕ} {l : List Hyp} {k d : ℕ} {out : List ℕ} {at left : ℕ} → left ≤ 0 → d ≡ length (getD l k nobody .steps)
-    → Behind f m l k d out at left → Way f m (getD l k nobody .steps) out d
-back-ends z e B = record { long = e; option-in = λ i h. B .option-in i (omega arith) h; step-is = λ i h. B .step-is i (omega arith) h }
-
--- ════ the store of the search
 module _ (book : Book) (direction : List ℕ) (width : ℤ) where
-  pub start-chains : {i : ℕ} {st : List ℤ} {count : ℕ} → Starting book direction width i st count
-      → Chains (optionAt book direction) (length (fittingSteps book direction)) st (upto (search book direction width) i)
+  pub held-chains : {i : ℕ} {st : List ℤ} {l : List Hyp} → Held book direction width i st l → Chains st l
   unfolding first
-  start-chains B =
+  held-chains H =
       record {
-        room = B .held .room;
-        root = ap (λ (s : Hyp). s .steps) (B .held .traced .root);
+        room = H .room;
+        root = ap (λ (s : Hyp). s .steps) (H .traced .root);
         links = λ j p h. ⊎-elim (λ (z : j ≡ 0). absurd (omega arith))
-            (λ v. record { inside = v .inside; option-in = B .held .options j p h; steps-are = v .steps-are }) (B .held .traced .links j h);
+            (λ v. record { inside = v .inside; step-in = H .steps-in j p h; steps-are = v .steps-are }) (H .traced .links j h);
       }
+
+  -- the words that a place covers are those of its state
+  pub held-size : {i : ℕ} {st : List ℤ} {l : List Hyp} → Held book direction width i st l → (c : ℕ) → c < length l → placeAt st c .size ≡ wordsCovered (getD l c nobody .key)
+  held-size H c h = H .each c h .size-is ∙ ap wordsCovered (H .each c h .key-is)
+
+  -- the same steps lead to the same key
+  pub held-key : {i : ℕ} {st : List ℤ} {l : List Hyp} → Held book direction width i st l → (c : ℕ) → c < length l → (s : Hyp) → Legal (search book direction width) s → getD l c nobody .steps ≡ s .steps
+      → getD l c nobody .key ≡ s .key
+  held-key H c h s g e = H .legal c h .key-is ∙ ap (after (search book direction width) (start (wordCount direction))) e ∙ sym (g .key-is)
+
+  pub held-walked : {i : ℕ} {st : List ℤ} {l : List Hyp} → Held book direction width i st l → 0 < length l → Walked st l
+  unfolding first wordsCovered start
+  held-walked {i} {st} {l} H some =
+      record {
+        chains = held-chains H;
+        none-covered = held-size H 0 some ∙ ap (λ (s : Hyp). wordsCovered (s .key)) (H .traced .root) ∙ none-covered (wordCount direction);
+        smaller = λ c p h. ⊎-elim (λ (z : c ≡ 0). absurd (omega arith))
+            (λ v.
+            let s : wordsCovered (getD l (placeAt st c .parent) nobody .key) < wordsCovered (getD l c nobody .key) = v .smaller in
+            omega (arith, held-size H c h, held-size H (placeAt st c .parent) (v .inside)))
+            (H .traced .links c h);
+        apart = λ c d hc hd e. H .apart c d hc hd (held-key H c hc (getD l d nobody) (H .legal d hd) e);
+      }
+
+  pub start-chains : {i : ℕ} {st : List ℤ} {count : ℕ} → Starting book direction width i st count → Chains st (upto (search book direction width) i)
+  start-chains B = held-chains (B .held)
 
   -- a derivation has at most as many steps as words
   pub start-short : {i : ℕ} {st : List ℤ} {count : ℕ} → Starting book direction width i st count → (k : ℕ) → k < count

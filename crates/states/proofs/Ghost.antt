@@ -1,6 +1,6 @@
 -- What the search's loops do, record by record: each turn takes one record of specs/Ghost to the next. All that is said of lists is here, so that the code's proofs
 -- speak of records only.
-use mathlib.Core.Path.{_≡_, refl, sym, _∙_, ap, subst, subst₂}
+use mathlib.Core.Path.{_≡_, refl, sym, _∙_, ap, ap₂, subst, subst₂}
 use mathlib.Core.Bool.{Bool, true, false, cond, true≢false}
 use mathlib.Core.List.{List, [], _∷_, _++_, map, List·Memᴰ, List·Memᴰ·head, List·Memᴰ·tail}
 use mathlib.Core.Option.{none}
@@ -26,7 +26,7 @@ use Rattle.search_theory.specs.Statements.{Legal, Steady, InGrow, Traced}
 use Rattle.search_theory.proofs.Array.{add-hit, add-miss, kept-at, kept-long, level-begin, level-end, level-skip, visit-other, visit-drop, grow-begin, grow-done, option-skip, option-take, option-rest, overflow}
 use Rattle.search_theory.proofs.Longer.{upto-longer}
 use Rattle.search_theory.proofs.Loops.{best-pick}
-use Rattle.search_theory.proofs.Sound.{upto-legal}
+use Rattle.search_theory.proofs.Sound.{legal-first, legal-extend, upto-legal}
 use Rattle.search_theory.proofs.Trace.{traced-begin, traced-on, traced-set, traced-append}
 use Rattle.meaning.specs.Book.{Book}
 use Rattle.meaning.specs.Direction.{wordCount}
@@ -38,7 +38,12 @@ use Rattle.meaning.proofs.Ranges.{Ranged}
 use Rattle.store.specs.Store.{placeAt, isSame, Unseen, Put, Indexed, Storable}
 use Rattle.states.specs.Adding.{Met, AddedOf, IndexedAfter}
 use Rattle.meaning.specs.Derivation.{noStep}
-use Rattle.states.specs.Shows.{nobody, Shows, Lists}
+use Rattle.meaning.specs.declared.Step.{Step}
+use Rattle.ways.specs.Back.{nobody}
+use Rattle.ways.specs.Codes.{stepOf, codes}
+use Rattle.ways.specs.Ties.{Walked, Beside}
+use Rattle.states.specs.Order.{Walks, Leading}
+use Rattle.states.specs.Shows.{Shows, Lists}
 use Rattle.states.specs.Ghost.{inWidth, optionAt, Held, Starting, Levelling, Growing, Chosen, topOf, After, Grew, Levelled, NextPlace}
 use Rattle.states.specs.Answer.{sized, noClose, picked}
 use Rattle.store.specs.declared.Place.{Place}
@@ -48,6 +53,8 @@ use Rattle.states.specs.declared.Added.the-variants.{Replaced, Kept, App
 use Rattle.states.specs.declared.Grown.{Grown}
 use Rattle.states.specs.declared.Grown.the-variants.{On, Overflow}
 use Rattle.states.proofs.Showing.{same-place, storable, start-covered}
+use Rattle.states.proofs.Back.{held-size, held-key, held-walked}
+use Rattle.states.proofs.Testing.{tested-is, leading-beside}
 
 -- the best score is one of the scores, or 0
 max-small : {B : ℕ} (t : ℤ) (l : List Hyp) → Within B t → ((s : Hyp) → List·Memᴰ s l → Within B (s .score)) → Within B (maxFrom t (map (λ s. s .score) l))
@@ -72,7 +79,7 @@ module _ (book : Book) (direction : List ℕ) (width : ℤ) where
   S = steady book direction width
 
   -- ════ one state more, or another in an equal one's place: y is to show s
-  module _ (i : ℕ) (st st′ : List ℤ) (l : List Hyp) (H : Held book direction width i st l) (y : Place) (s : Hyp) (W : Shows n y s) where
+  module _ (i : ℕ) (st st′ : List ℤ) (l : List Hyp) (H : Held book direction width i st l) (y : Place) (s : Hyp) (W : Shows n y s) (g : Legal P s) where
     -- the code's test of a place is the search's
     pub same-at : (k : ℕ) → k < length l → isSame (placeAt st k .state) (y .state) ≡ isEqual (getD l k nobody .key) (s .key)
     same-at k h =
@@ -80,15 +87,16 @@ module _ (book : Book) (direction : List ℕ) (width : ℤ) where
         ∙ ap (λ (x : Key). isEqual x (keyOf n (y .state))) (H .each k h .key-is)
         ∙ ap (isEqual (getD l k nobody .key)) (W .key-is)
 
-    pub held-set : (m : ℕ) → m < length l → getD l m nobody .key ≡ s .key → Put st st′ m y → y .option < length (fittingSteps book direction)
-        → Traced P i (set l m s) (λ k. placeAt st′ k .parent) (λ k. optionAt book direction (placeAt st′ k .option)) nobody → Held book direction width i st′ (set l m s)
+    pub held-set : (m : ℕ) → m < length l → getD l m nobody .key ≡ s .key → Put st st′ m y → y .step < codes
+        → Traced P i (set l m s) (λ k. placeAt st′ k .parent) (λ k. stepOf (placeAt st′ k .step)) nobody → Held book direction width i st′ (set l m s)
     held-set m h e u o T =
         let a : length (set l m s) ≡ length l = length-set l m s in
         record {
           room = omega (arith, u .long, H .room);
           each = λ k z. at k (omega arith) (ℕ-discrete k m);
           apart = λ j k hj hk q. H .apart j k (omega arith) (omega arith) (sym (key-at j (ℕ-discrete j m)) ∙ q ∙ key-at k (ℕ-discrete k m));
-          options = λ k z w. option k z (omega arith) (ℕ-discrete k m);
+          steps-in = λ k z w. in-range k z (omega arith) (ℕ-discrete k m);
+          legal = λ k z. legal-at k (omega arith) (ℕ-discrete k m);
           traced = T;
         }
       where
@@ -98,9 +106,13 @@ module _ (book : Book) (direction : List ℕ) (width : ℤ) where
             (subst₂ (Shows n) (sym (u .at)) (sym (getD-set-same l m s nobody h)) W)
         at k z (no q) = subst₂ (Shows n) (sym (u .other k q)) (sym (getD-set-other l m k s nobody q)) (H .each k z)
 
-        option : (k : ℕ) → 0 < k → k < length l → Dec (k ≡ m) → placeAt st′ k .option < length (fittingSteps book direction)
-        option k z w (yes q) = subst (λ (x : Place). x .option < length (fittingSteps book direction)) (sym (ap (placeAt st′) q ∙ u .at)) o
-        option k z w (no q) = subst (λ (x : Place). x .option < length (fittingSteps book direction)) (sym (u .other k q)) (H .options k z w)
+        legal-at : (k : ℕ) → k < length l → Dec (k ≡ m) → Legal P (getD (set l m s) k nobody)
+        legal-at k z (yes q) = subst (Legal P) (sym (ap (λ (x : ℕ). getD (set l m s) x nobody) q ∙ getD-set-same l m s nobody h)) g
+        legal-at k z (no q) = subst (Legal P) (sym (getD-set-other l m k s nobody q)) (H .legal k z)
+
+        in-range : (k : ℕ) → 0 < k → k < length l → Dec (k ≡ m) → placeAt st′ k .step < codes
+        in-range k z w (yes q) = subst (λ (x : Place). x .step < codes) (sym (ap (placeAt st′) q ∙ u .at)) o
+        in-range k z w (no q) = subst (λ (x : Place). x .step < codes) (sym (u .other k q)) (H .steps-in k z w)
 
         key-at : (k : ℕ) → Dec (k ≡ m) → getD (set l m s) k nobody .key ≡ getD l k nobody .key
         key-at k (yes q) =
@@ -109,15 +121,16 @@ module _ (book : Book) (direction : List ℕ) (width : ℤ) where
         key-at k (no q) = ap (λ (z : Hyp). z .key) (getD-set-other l m k s nobody q)
 
     pub held-append : ((k : ℕ) → k < length l → isEqual (getD l k nobody .key) (s .key) ≡ false) → 8 * length l + 8 ≤ length st → Put st st′ (length l) y
-        → y .option < length (fittingSteps book direction)
-        → Traced P i (l ++ (s ∷ [])) (λ k. placeAt st′ k .parent) (λ k. optionAt book direction (placeAt st′ k .option)) nobody → Held book direction width i st′ (l ++ (s ∷ []))
+        → y .step < codes
+        → Traced P i (l ++ (s ∷ [])) (λ k. placeAt st′ k .parent) (λ k. stepOf (placeAt st′ k .step)) nobody → Held book direction width i st′ (l ++ (s ∷ []))
     held-append f r u o T =
         let a : length (l ++ (s ∷ [])) ≡ length l + 1 = length-append l (s ∷ []) in
         record {
           room = omega (arith, u .long);
           each = λ k z. at k (omega arith) (ℕ-discrete k (length l));
           apart = λ j k hj hk q. two j k (omega arith) (omega arith) (ℕ-discrete j (length l)) (ℕ-discrete k (length l)) q;
-          options = λ k z w. option k z (omega arith) (ℕ-discrete k (length l));
+          steps-in = λ k z w. in-range k z (omega arith) (ℕ-discrete k (length l));
+          legal = λ k z. legal-at k (omega arith) (ℕ-discrete k (length l));
           traced = T;
         }
       where
@@ -131,9 +144,13 @@ module _ (book : Book) (direction : List ℕ) (width : ℤ) where
         at k z (yes q) = subst (λ (x : ℕ). Shows n (placeAt st′ x) (getD (l ++ (s ∷ [])) x nobody)) (sym q) (subst₂ (Shows n) (sym (u .at)) (sym new) W)
         at k z (no q) = let lt : k < length l = omega arith in subst₂ (Shows n) (sym (u .other k q)) (sym (old k lt)) (H .each k lt)
 
-        option : (k : ℕ) → 0 < k → k < length l + 1 → Dec (k ≡ length l) → placeAt st′ k .option < length (fittingSteps book direction)
-        option k z w (yes q) = subst (λ (x : Place). x .option < length (fittingSteps book direction)) (sym (ap (placeAt st′) q ∙ u .at)) o
-        option k z w (no q) = subst (λ (x : Place). x .option < length (fittingSteps book direction)) (sym (u .other k q)) (H .options k z (omega arith))
+        legal-at : (k : ℕ) → k < length l + 1 → Dec (k ≡ length l) → Legal P (getD (l ++ (s ∷ [])) k nobody)
+        legal-at k z (yes q) = subst (Legal P) (sym (ap (λ (x : ℕ). getD (l ++ (s ∷ [])) x nobody) q ∙ new)) g
+        legal-at k z (no q) = let lt : k < length l = omega arith in subst (Legal P) (sym (old k lt)) (H .legal k lt)
+
+        in-range : (k : ℕ) → 0 < k → k < length l + 1 → Dec (k ≡ length l) → placeAt st′ k .step < codes
+        in-range k z w (yes q) = subst (λ (x : Place). x .step < codes) (sym (ap (placeAt st′) q ∙ u .at)) o
+        in-range k z w (no q) = subst (λ (x : Place). x .step < codes) (sym (u .other k q)) (H .steps-in k z (omega arith))
 
         clash : (k : ℕ) → k < length l → getD l k nobody .key ≡ s .key → ⊥
         clash k z q = true≢false (sym (subst (λ (x : Key). isEqual (getD l k nobody .key) x ≡ true) q (S .same-refl (getD l k nobody .key))) ∙ f k z)
@@ -153,14 +170,15 @@ module _ (book : Book) (direction : List ℕ) (width : ℤ) where
             H .apart j k lj lk (ap (λ (z : Hyp). z .key) (sym (old j lj)) ∙ q ∙ ap (λ (z : Hyp). z .key) (old k lk))
 
     -- what the search for an equal state found is what `add` does
-    pub add-at : (k : ℕ) → k < length l → {b : Bool} → Met st (length l) (y .state) k b → (add P s l ≡ cond b (set l k s) l) × (getD l k nobody .key ≡ s .key)
-    unfolding isBetter
-    add-at k h {b} M =
+    pub add-at : s .steps ≡ getD l (y .parent) nobody .steps ++ (stepOf (y .step) ∷ []) → (k : ℕ) → k < length l → {b : Bool} → Met st (length l) y k b → Beside st l (y .parent) (y .step) k
+        → (add P s l ≡ cond b (set l k s) l) × (getD l k nobody .key ≡ s .key)
+    add-at ss k h {b} M B =
         let hit : isEqual (getD l k nobody .key) (s .key) ≡ true = sym (same-at k h) ∙ M .same in
         let eq : getD l k nobody .key ≡ s .key = S .same-eq _ _ hit in
         let none : (m : ℕ) → m < k → isEqual (getD l m nobody .key) (s .key) ≡ false =
         λ m lt. is-false (λ q. let r : m ≡ k = H .apart m k (omega arith) h (S .same-eq _ _ q ∙ sym eq) in omega arith) in
-        let sc : ltZ (getD l k nobody .score) (s .score) ≡ b = subst₂ (λ (u v : ℤ). ltZ u v ≡ b) (H .each k h .score-is) (W .score-is) (M .test) in
+        let sc : isBetter s (getD l k nobody) ≡ b =
+        tested-is y (placeAt st k .state) k B (M .test) s (getD l k nobody) (W .score-is) (H .each k h .score-is) ss refl in
         (add-hit P s nobody l k h none hit ∙ ap (λ (c : Bool). cond c (set l k s) l) sc, eq)
 
     pub add-new : Unseen st (length l) (y .state) → ((k : ℕ) → k < length l → isEqual (getD l k nobody .key) (s .key) ≡ false) × (add P s l ≡ l ++ (s ∷ []))
@@ -198,7 +216,7 @@ module _ (book : Book) (direction : List ℕ) (width : ℤ) where
         }
 
     -- it may, and y is the new state
-    module _ (e : mayExtend book direction (keyOf n (x .state)) (optionAt book direction o) ≡ true) {y : Place} (N : NextPlace book direction x j o y) (st′ : List ℤ) where
+    module _ (e : mayExtend book direction (keyOf n (x .state)) (optionAt book direction o) ≡ true) {y : Place} (N : NextPlace book direction x j o y) where
       abbrev s : Hyp
       s = extend P q (optionAt book direction o)
 
@@ -215,14 +233,27 @@ module _ (book : Book) (direction : List ℕ) (width : ℤ) where
             fine = N .fine;
           }
 
+      legal-s : Legal P s
+      legal-s = legal-extend P q legal (optionAt book direction o) (getD-mem (fittingSteps book direction) o noStep ho) (may-q e)
+
       taken : InGrow P i j q (o + 1) (add P s (G .list))
       taken = rw add-one (option-take P S i j q legal size-q o noStep (G .list) ho (may-q e) (G .grow))
 
-      option-in : y .option < length (fittingSteps book direction)
-      option-in = subst (λ (z : ℕ). z < length (fittingSteps book direction)) (sym (N .option-is)) ho
+      step-in : y .step < codes
+      step-in = N .step-in
 
       j-in : j < length (G .list)
       j-in = omega (arith, kept-long P i (upto P i) (G .list) (G .grow .kept), A .inside)
+
+      parent-in : y .parent < length (G .list)
+      parent-in = subst (λ (z : ℕ). z < length (G .list)) (sym (N .parent-is)) j-in
+
+      -- its steps, by what the store holds
+      steps-y : s .steps ≡ getD (G .list) (y .parent) nobody .steps ++ (stepOf (y .step) ∷ [])
+      unfolding extend
+      steps-y =
+          ap (λ (z : Hyp). z .steps ++ (optionAt book direction o ∷ [])) (sym now-q)
+          ∙ ap₂ (λ (a : ℕ) (b : Step). getD (G .list) a nobody .steps ++ (b ∷ [])) (sym (N .parent-is)) (sym (N .step-is))
 
       size-j : wordsCovered (getD (G .list) j nobody .key) ≡ i
       size-j = ap (λ (z : Hyp). wordsCovered (z .key)) now-q ∙ size-q
@@ -230,68 +261,93 @@ module _ (book : Book) (direction : List ℕ) (width : ℤ) where
       may-j : mayExtend book direction (getD (G .list) j nobody .key) (optionAt book direction o) ≡ true
       may-j = ap (λ (z : Hyp). mayExtend book direction (z .key) (optionAt book direction o)) now-q ∙ may-q e
 
-      -- the back pointers, in either case
-      module _ (m : ℕ) (u : Put st st′ m y) where
-        via-m : optionAt book direction (placeAt st′ m .option) ≡ optionAt book direction o
-        via-m = ap (λ (z : Place). optionAt book direction (z .option)) (u .at) ∙ ap (optionAt book direction) (N .option-is)
+      size-y : y .size ≡ wordsCovered (s .key)
+      size-y = N .size-is ∙ ap wordsCovered (shown-y .key-is)
 
-        T-set : m < length (G .list) → getD (G .list) m nobody .key ≡ s .key → Traced P i (set (G .list) m s) (λ k. placeAt st′ k .parent) (λ k. optionAt book direction (placeAt st′ k .option)) nobody
-        T-set h k =
-            subst (λ (z : Hyp). Traced P i (set (G .list) m (extend P z (optionAt book direction o))) (λ k. placeAt st′ k .parent) (λ k. optionAt book direction (placeAt st′ k .option)) nobody) now-q
-            (traced-set P S i (G .list) (λ k. placeAt st k .parent) (λ k. placeAt st′ k .parent) (λ k. optionAt book direction (placeAt st k .option)) (λ k. optionAt book direction (placeAt st′ k .option)) nobody (G .held .traced)
-            j (optionAt book direction o) m j-in size-j (ap (λ (z : Place). z .parent) (u .at) ∙ N .parent-is) via-m
-            (λ k n. ap (λ (z : Place). z .parent) (u .other k n)) (λ k n. ap (λ (z : Place). optionAt book direction (z .option)) (u .other k n))
-            (subst (Legal P) (sym now-q) legal) (getD-mem (fittingSteps book direction) o noStep ho) may-j
-            h (k ∙ ap (λ (z : Hyp). extend P z (optionAt book direction o) .key) (sym now-q)))
+      -- what add_place asks
+      pub leads : Leading st count y
+      unfolding extend
+      leads =
+          let c = G .long in
+          let p = parent-in in
+          record {
+            walks = record { list = G .list; long = G .long; walked = held-walked book direction width (G .held) (omega arith) };
+            parent-in = omega arith;
+            parent-below = (let h = held-size book direction width (G .held) (y .parent) parent-in in
+                let z : wordsCovered (getD (G .list) (y .parent) nobody .key) ≡ i = ap (λ (m : ℕ). wordsCovered (getD (G .list) m nobody .key)) (N .parent-is) ∙ size-j in
+                let g = S .grows q legal (optionAt book direction o) (getD-mem (fittingSteps book direction) o noStep ho) (may-q e) in
+                omega (arith, size-q, size-y));
+            same-steps = λ k h u. held-size book direction width (G .held) k (omega arith) ∙ ap wordsCovered (held-key book direction width (G .held) k (omega arith) s legal-s (u ∙ sym steps-y)) ∙ sym size-y;
+            same-state = λ k h u.
+                held-size book direction width (G .held) k (omega arith)
+                ∙ ap wordsCovered (S .same-eq _ _ (sym (same-at i st st (G .list) (G .held) y s shown-y legal-s k (omega arith)) ∙ u)) ∙ sym size-y;
+          }
 
-        T-append : m ≡ length (G .list) → Traced P i (G .list ++ (s ∷ [])) (λ k. placeAt st′ k .parent) (λ k. optionAt book direction (placeAt st′ k .option)) nobody
-        T-append h =
-            subst (λ (z : Hyp). Traced P i (G .list ++ (extend P z (optionAt book direction o) ∷ [])) (λ k. placeAt st′ k .parent) (λ k. optionAt book direction (placeAt st′ k .option)) nobody) now-q
-            (traced-append P S i (G .list) (λ k. placeAt st k .parent) (λ k. placeAt st′ k .parent) (λ k. optionAt book direction (placeAt st k .option)) (λ k. optionAt book direction (placeAt st′ k .option)) nobody (G .held .traced)
-            j (optionAt book direction o) m j-in size-j (ap (λ (z : Place). z .parent) (u .at) ∙ N .parent-is) via-m
-            (λ k n. ap (λ (z : Place). z .parent) (u .other k n)) (λ k n. ap (λ (z : Place). optionAt book direction (z .option)) (u .other k n))
-            (subst (Legal P) (sym now-q) legal) (getD-mem (fittingSteps book direction) o noStep ho) may-j h)
+      -- y is added
+      module _ (st′ : List ℤ) where
+        -- the back pointers, in either case
+        module _ (m : ℕ) (u : Put st st′ m y) where
+          via-m : stepOf (placeAt st′ m .step) ≡ optionAt book direction o
+          via-m = ap (λ (z : Place). stepOf (z .step)) (u .at) ∙ N .step-is
 
-      -- each answer of add_place
-      pub went : (r : Added) → AddedOf st st′ count y r → IndexedAfter st′ count r → After book direction width i j (o + 1) st′ count r
-      went Replaced (k, M, u) J =
-          let h : k < length (G .list) = omega (arith, M .inside, G .long) in
-          let M′ : Met st (length (G .list)) (y .state) k true = subst (λ (z : ℕ). Met st z (y .state) k true) (sym (G .long)) M in
-          let a = add-at i st st′ (G .list) (G .held) y s shown-y k h M′ in
-          record {
-            list = set (G .list) k s;
-            long = length-set (G .list) k s ∙ G .long;
-            index = J;
-            held = held-set i st st′ (G .list) (G .held) y s shown-y k h (a .1) u option-in (T-set k u h (a .1));
-            grow = subst (InGrow P i j q (o + 1)) (a .0) taken;
-          }
-      went Kept (k, M, u) J =
-          let h : k < length (G .list) = omega (arith, M .inside, G .long) in
-          let M′ : Met st (length (G .list)) (y .state) k false = subst (λ (z : ℕ). Met st z (y .state) k false) (sym (G .long)) M in
-          let a = add-at i st st′ (G .list) (G .held) y s shown-y k h M′ in
-          record {
-            list = G .list;
-            long = G .long;
-            index = J;
-            held = subst (λ (z : List ℤ). Held book direction width i z (G .list)) (sym u) (G .held);
-            grow = subst (InGrow P i j q (o + 1)) (a .0) taken;
-          }
-      went Appended (f, r, u) J =
-          let a = add-new i st st′ (G .list) (G .held) y s shown-y (subst (λ (z : ℕ). Unseen st z (y .state)) (sym (G .long)) f) in
-          let u′ : Put st st′ (length (G .list)) y = subst (λ (z : ℕ). Put st st′ z y) (sym (G .long)) u in
-          record {
-            list = G .list ++ (s ∷ []);
-            long = length-append (G .list) (s ∷ []) ∙ ap (λ (z : ℕ). z + 1) (G .long);
-            index = J;
-            held = held-append i st st′ (G .list) (G .held) y s shown-y (a .0) (omega (arith, G .long)) u′ option-in (T-append (length (G .list)) u′ refl);
-            grow = subst (InGrow P i j q (o + 1)) (a .1) taken;
-          }
-      went Full (f, r, u) J =
-          let a = add-new i st st′ (G .list) (G .held) y s shown-y (subst (λ (z : ℕ). Unseen st z (y .state)) (sym (G .long)) f) in
-          subst (λ (z : List ℤ). length z / 8 < length (run P)) (sym u)
-          (overflow P i j q s nobody (suc o) (G .list) (length st / 8) (A .low)
-          (option-rest P i j q o noStep (G .list) ho (may-q e) (G .grow))
-          (a .0) (omega (arith, G .long)))
+          T-set : m < length (G .list) → getD (G .list) m nobody .key ≡ s .key → Traced P i (set (G .list) m s) (λ k. placeAt st′ k .parent) (λ k. stepOf (placeAt st′ k .step)) nobody
+          T-set h k =
+              subst (λ (z : Hyp). Traced P i (set (G .list) m (extend P z (optionAt book direction o))) (λ k. placeAt st′ k .parent) (λ k. stepOf (placeAt st′ k .step)) nobody) now-q
+              (traced-set P S i (G .list) (λ k. placeAt st k .parent) (λ k. placeAt st′ k .parent) (λ k. stepOf (placeAt st k .step)) (λ k. stepOf (placeAt st′ k .step)) nobody (G .held .traced)
+              j (optionAt book direction o) m j-in size-j (ap (λ (z : Place). z .parent) (u .at) ∙ N .parent-is) via-m
+              (λ k n. ap (λ (z : Place). z .parent) (u .other k n)) (λ k n. ap (λ (z : Place). stepOf (z .step)) (u .other k n))
+              (subst (Legal P) (sym now-q) legal) (getD-mem (fittingSteps book direction) o noStep ho) may-j
+              h (k ∙ ap (λ (z : Hyp). extend P z (optionAt book direction o) .key) (sym now-q)))
+
+          T-append : m ≡ length (G .list) → Traced P i (G .list ++ (s ∷ [])) (λ k. placeAt st′ k .parent) (λ k. stepOf (placeAt st′ k .step)) nobody
+          T-append h =
+              subst (λ (z : Hyp). Traced P i (G .list ++ (extend P z (optionAt book direction o) ∷ [])) (λ k. placeAt st′ k .parent) (λ k. stepOf (placeAt st′ k .step)) nobody) now-q
+              (traced-append P S i (G .list) (λ k. placeAt st k .parent) (λ k. placeAt st′ k .parent) (λ k. stepOf (placeAt st k .step)) (λ k. stepOf (placeAt st′ k .step)) nobody (G .held .traced)
+              j (optionAt book direction o) m j-in size-j (ap (λ (z : Place). z .parent) (u .at) ∙ N .parent-is) via-m
+              (λ k n. ap (λ (z : Place). z .parent) (u .other k n)) (λ k n. ap (λ (z : Place). stepOf (z .step)) (u .other k n))
+              (subst (Legal P) (sym now-q) legal) (getD-mem (fittingSteps book direction) o noStep ho) may-j h)
+
+        -- each answer of add_place
+        pub went : (r : Added) → AddedOf st st′ count y r → IndexedAfter st′ count r → After book direction width i j (o + 1) st′ count r
+        unfolding leads
+        went Replaced (k, M, u) J =
+            let h : k < length (G .list) = omega (arith, M .inside, G .long) in
+            let M′ : Met st (length (G .list)) y k true = subst (λ (z : ℕ). Met st z y k true) (sym (G .long)) M in
+            let a = add-at i st st′ (G .list) (G .held) y s shown-y legal-s steps-y k h M′ (leading-beside leads (M .inside) (M .same)) in
+            record {
+              list = set (G .list) k s;
+              long = length-set (G .list) k s ∙ G .long;
+              index = J;
+              held = held-set i st st′ (G .list) (G .held) y s shown-y legal-s k h (a .1) u step-in (T-set k u h (a .1));
+              grow = subst (InGrow P i j q (o + 1)) (a .0) taken;
+            }
+        went Kept (k, M, u) J =
+            let h : k < length (G .list) = omega (arith, M .inside, G .long) in
+            let M′ : Met st (length (G .list)) y k false = subst (λ (z : ℕ). Met st z y k false) (sym (G .long)) M in
+            let a = add-at i st st′ (G .list) (G .held) y s shown-y legal-s steps-y k h M′ (leading-beside leads (M .inside) (M .same)) in
+            record {
+              list = G .list;
+              long = G .long;
+              index = J;
+              held = subst (λ (z : List ℤ). Held book direction width i z (G .list)) (sym u) (G .held);
+              grow = subst (InGrow P i j q (o + 1)) (a .0) taken;
+            }
+        went Appended (f, r, u) J =
+            let a = add-new i st st′ (G .list) (G .held) y s shown-y legal-s (subst (λ (z : ℕ). Unseen st z (y .state)) (sym (G .long)) f) in
+            let u′ : Put st st′ (length (G .list)) y = subst (λ (z : ℕ). Put st st′ z y) (sym (G .long)) u in
+            record {
+              list = G .list ++ (s ∷ []);
+              long = length-append (G .list) (s ∷ []) ∙ ap (λ (z : ℕ). z + 1) (G .long);
+              index = J;
+              held = held-append i st st′ (G .list) (G .held) y s shown-y legal-s (a .0) (omega (arith, G .long)) u′ step-in (T-append (length (G .list)) u′ refl);
+              grow = subst (InGrow P i j q (o + 1)) (a .1) taken;
+            }
+        went Full (f, r, u) J =
+            let a = add-new i st st′ (G .list) (G .held) y s shown-y legal-s (subst (λ (z : ℕ). Unseen st z (y .state)) (sym (G .long)) f) in
+            subst (λ (z : List ℤ). length z / 8 < length (run P)) (sym u)
+            (overflow P i j q s nobody (suc o) (G .list) (length st / 8) (A .low)
+            (option-rest P i j q o noStep (G .list) ho (may-q e) (G .grow))
+            (a .0) (omega (arith, G .long)))
 
     pub place-inside : 8 * j + 8 ≤ length st
     place-inside = omega (arith, kept-long P i (upto P i) (G .list) (G .grow .kept), A .inside, G .held .room)
@@ -308,8 +364,8 @@ module _ (book : Book) (direction : List ℕ) (width : ℤ) where
       (score-within book direction width R s (upto-legal P i s (getD-mem (upto P i) j nobody (A .inside))))
 
   -- y can be stored
-  pub next-storable : {x y : Place} {j o : ℕ} → NextPlace book direction x j o y → j < 2 ^ 63 → o < 2 ^ 63 → Storable y
-  next-storable {y} N hj ho = storable n y (N .size-is) (N .fine) (subst (λ (z : ℕ). z < 2 ^ 63) (sym (N .parent-is)) hj) (subst (λ (z : ℕ). z < 2 ^ 63) (sym (N .option-is)) ho)
+  pub next-storable : {x y : Place} {j o : ℕ} → NextPlace book direction x j o y → j < 2 ^ 63 → Storable y
+  next-storable {y} N hj = storable n y (N .size-is) (N .fine) (subst (λ (z : ℕ). z < 2 ^ 63) (sym (N .parent-is)) hj) (let h = N .step-in in omega arith)
 
   -- ════ one place of a level
   module _ {i j : ℕ} {st : List ℤ} {count : ℕ} (L : Levelling book direction width i j st count) (inside : j < length (upto P i)) where
@@ -407,7 +463,7 @@ module _ (book : Book) (direction : List ℕ) (width : ℤ) where
   level-starts {i} B = record { list = upto P i; long = B .long; index = B .index; held = B .held; level = level-begin P i }
 
   held-on : {i : ℕ} {st : List ℤ} {l : List Hyp} → Held book direction width i st l → Held book direction width (i + 1) st l
-  held-on H = record { room = H .room; each = H .each; apart = H .apart; options = H .options; traced = traced-on P (omega arith) (H .traced) }
+  held-on H = record { room = H .room; each = H .each; apart = H .apart; steps-in = H .steps-in; legal = H .legal; traced = traced-on P (omega arith) (H .traced) }
 
   pub level-ends : {i j : ℕ} {st : List ℤ} {count : ℕ} → length (upto P i) ≤ j → Levelling book direction width i j st count → Starting book direction width (i + 1) st count
   level-ends {i} {j} {st} h L =
@@ -468,8 +524,9 @@ module _ (book : Book) (direction : List ℕ) (width : ℤ) where
           room = J .few;
           each = λ k l. let z : k ≡ 0 = omega arith in subst (λ (m : ℕ). Shows n (placeAt st m) (getD (first P ∷ []) m nobody)) (sym z) W;
           apart = λ j k hj hk _. omega arith;
-          options = λ k z h. absurd (omega arith);
-          traced = traced-begin P (λ k. placeAt st k .parent) (λ k. optionAt book direction (placeAt st k .option)) nobody;
+          steps-in = λ k z h. absurd (omega arith);
+          legal = λ k l. let z : k ≡ 0 = omega arith in subst (λ (m : ℕ). Legal P (getD (first P ∷ []) m nobody)) (sym z) (legal-first P);
+          traced = traced-begin P (λ k. placeAt st k .parent) (λ k. stepOf (placeAt st k .step)) nobody;
         };
       }
 
@@ -479,7 +536,14 @@ module _ (book : Book) (direction : List ℕ) (width : ℤ) where
   unfolding run
   search-ends B = (B .long, omega (arith, B .held .room))
 
+  start-walked : {i : ℕ} {st : List ℤ} {count : ℕ} → Starting book direction width i st count → Walked st (upto P i)
+  unfolding upto
+  start-walked {i} B = held-walked book direction width (B .held) (upto-longer P 0 i (omega arith))
+
+  pub start-walks : {i : ℕ} {st : List ℤ} {count : ℕ} → Starting book direction width i st count → Walks st count
+  start-walks {i} B = record { list = upto P i; long = B .long; walked = start-walked B }
+
   pub best-read : {st : List ℤ} {count : ℕ} → Starting book direction width n st count → (r : Found)
-      → ((l : List Hyp) → Lists n st count l → pick wordsCovered n noClose isBetter none l ≡ picked l r) → best P ≡ picked (run P) r
+      → ((l : List Hyp) → Walked st l → Lists n st count l → pick wordsCovered n noClose isBetter none l ≡ picked l r) → best P ≡ picked (run P) r
   unfolding run
-  best-read B r f = best-pick P ∙ f (upto P n) (start-lists B)
+  best-read B r f = best-pick P ∙ f (upto P n) (start-walked B) (start-lists B)

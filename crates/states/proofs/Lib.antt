@@ -1,5 +1,5 @@
 pub mod Answer
 pub mod Back
-pub mod Equals
 pub mod Ghost
 pub mod Showing
+pub mod Testing

@@ -51,8 +51,8 @@ pub size-small : (n : ℕ) (x : State) → wordsCovered (keyOf n x) ≤ n
 unfolding wordsCovered keyOf
 size-small n x = omega (arith, count-le (λ bit. bit) (bitsOf n (x .covered)), bits-length n (x .covered))
 
-pub storable : (n : ℕ) (x : Place) → x .size ≡ wordsCovered (keyOf n (x .state)) → Fine n (x .state) → x .parent < 2 ^ 63 → x .option < 2 ^ 63 → Storable x
-storable n x e f p o = record { size-fits = omega (arith, size-small n (x .state), f .few); parent-fits = p; option-fits = o }
+pub storable : (n : ℕ) (x : Place) → x .size ≡ wordsCovered (keyOf n (x .state)) → Fine n (x .state) → x .parent < 2 ^ 63 → x .step < 2 ^ 63 → Storable x
+storable n x e f p o = record { size-fits = omega (arith, size-small n (x .state), f .few); parent-fits = p; step-fits = o }
 
 -- ---- the start state: its number of covered positions has no digit 1
 below-power : (c : ℕ) → c < 2 ^ c

@@ -3,15 +3,17 @@ use mathlib.Core.Bool.{true, false, cond}
 use mathlib.Core.List.{List, [], _∷_}
 use mathlib.Core.Option.{Option, none, some}
 use Prim.Native.Nat.{ℕ, _<_}
+use mathlib.Core.Path.{_≡_}
 use lib.Dec.{eqb}
 use lib.IntN.{ℤ, pos, _+ℤ_}
 use lib.ListN.{getD}
 use Rattle.laws.specs.Lists.{keep, larger}
-use Rattle.meaning.specs.State.{Key, Hyp, wordsCovered, keyOf}
-use Rattle.meaning.specs.declared.State.{State}
+use Rattle.search_theory.specs.Search.{wins}
+use Rattle.search_theory.specs.Loops.{closing}
+use Rattle.meaning.specs.State.{Key, Hyp, wordsCovered, isBetter, keyOf}
+use Rattle.store.specs.declared.Place.{Place}
 use Rattle.store.specs.Store.{placeAt}
-use Rattle.states.specs.Order.{surpasses}
-use Rattle.states.specs.Shows.{nobody}
+use Rattle.ways.specs.Back.{nobody}
 use Rattle.store.specs.declared.Found.{Found}
 use Rattle.store.specs.declared.Found.the-variants.{At, Nothing}
 use Rattle.states.specs.declared.Top.{Top}
@@ -38,23 +40,28 @@ topFrom i t (q ∷ qs) = topFrom i (raised i t (wordsCovered (q .key)) (q .score
 abbrev pub noClose : Key → ℤ
 noClose k = pos 0
 
--- a state of n words as code holds it, with what it gains
-abbrev pub closedAt : ℕ → State → State
-closedAt n x = record { word1 = x .word1; word2 = x .word2; covered = x .covered; r = x .r; score = x .score +ℤ noClose (keyOf n x) }
+-- a place whose state, of n words, has what it gains
+abbrev pub closedAt : ℕ → Place → Place
+closedAt n x =
+    let s = x .state in
+    record {
+      state = record { word1 = s .word1; word2 = s .word2; covered = s .covered; r = s .r; score = s .score +ℤ noClose (keyOf n s) };
+      size = x .size;
+      parent = x .parent;
+      step = x .step;
+    }
 
--- ---- the best state so far, by its place, and with one place more; n is the number of words
-abbrev pub beats : ℕ → List ℤ → Found → ℕ → Found
-beats n st Nothing k = At k
-beats n st (At j) k = cond (surpasses (closedAt n (placeAt st k .state)) (closedAt n (placeAt st j .state))) (At k) (At j)
+-- ---- the best state so far, by its place; n is the number of words
 
-unfoldable pub chosenOf : ℕ → List ℤ → Found → ℕ → Found
-chosenOf n st b k = cond (eqb (placeAt st k .size) n) (beats n st b k) b
-
--- the place is one of the first k
-abbrev pub Below : ℕ → Found → Type 0
-Below k Nothing = Unit
-Below k (At j) = j < k
+-- the place is one of the first k, and its state covers n words
+abbrev pub Below : ℕ → List ℤ → ℕ → Found → Type 0
+Below n st k Nothing = Unit
+Below n st k (At j) = (j < k) × (placeAt st j .size ≡ n)
 
 abbrev pub picked : List Hyp → Found → Option Hyp
 picked l Nothing = none
 picked l (At j) = some (getD l j nobody)
+
+-- with one place more: it is of another size, the first, or the better of two
+abbrev pub withPlace : ℕ → List ℤ → List Hyp → Found → ℕ → Option Hyp
+withPlace n st l b k = cond (eqb (placeAt st k .size) n) (wins isBetter (picked l b) (closing noClose (getD l k nobody))) (picked l b)

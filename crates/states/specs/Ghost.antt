@@ -9,7 +9,7 @@ use lib.IntN.{ℤ, _+ℤ_, _-ℤ_}
 use lib.Signed.{leZ}
 use lib.ListN.{length, getD}
 use Rattle.search_theory.specs.Search.{Problem, setOf, upto, run}
-use Rattle.search_theory.specs.Statements.{InLevel, InGrow, Traced}
+use Rattle.search_theory.specs.Statements.{Legal, InLevel, InGrow, Traced}
 use Rattle.meaning.specs.Book.{Book}
 use Rattle.meaning.specs.Direction.{wordCount}
 use Rattle.meaning.specs.State.{Hyp, wordsCovered, nextKey, gain, keyOf}
@@ -17,7 +17,9 @@ use Rattle.meaning.specs.Search.{fittingSteps, isOff, bestScore, search}
 use Rattle.meaning.specs.declared.Step.{Step}
 use Rattle.store.specs.Store.{placeAt, Indexed}
 use Rattle.meaning.specs.Derivation.{noStep}
-use Rattle.states.specs.Shows.{nobody, Fine, Shows}
+use Rattle.ways.specs.Back.{nobody}
+use Rattle.ways.specs.Codes.{stepOf, codes}
+use Rattle.states.specs.Shows.{Fine, Shows}
 use Rattle.store.specs.declared.Place.{Place}
 use Rattle.states.specs.declared.Added.{Added}
 use Rattle.states.specs.declared.Added.the-variants.{Replaced, Kept, Appended, Full}
@@ -41,8 +43,9 @@ module _ (book : Book) (direction : List ℕ) (width : ℤ) where
     pub room : 8 * length l ≤ length st
     pub each : (k : ℕ) → k < length l → Shows (wordCount direction) (placeAt st k) (getD l k nobody)
     pub apart : (j k : ℕ) → j < length l → k < length l → getD l j nobody .key ≡ getD l k nobody .key → j ≡ k
-    pub options : (k : ℕ) → 0 < k → k < length l → placeAt st k .option < length (fittingSteps book direction)
-    pub traced : Traced P i l (λ k. placeAt st k .parent) (λ k. optionAt book direction (placeAt st k .option)) nobody
+    pub steps-in : (k : ℕ) → 0 < k → k < length l → placeAt st k .step < codes
+    pub legal : (k : ℕ) → k < length l → Legal P (getD l k nobody)
+    pub traced : Traced P i l (λ k. placeAt st k .parent) (λ k. stepOf (placeAt st k .step)) nobody
 
   -- where the level i starts
   pub record Starting (i : ℕ) (st : List ℤ) (count : ℕ) : Type 0 where
@@ -104,4 +107,5 @@ pub record NextPlace (book : Book) (direction : List ℕ) (x : Place) (j o : ℕ
   pub size-is : y .size ≡ wordsCovered (keyOf (wordCount direction) (y .state))
   pub fine : Fine (wordCount direction) (y .state)
   pub parent-is : y .parent ≡ j
-  pub option-is : y .option ≡ o
+  pub step-is : stepOf (y .step) ≡ optionAt book direction o
+  pub step-in : y .step < codes

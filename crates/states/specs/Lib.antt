@@ -1,6 +1,5 @@
-pub mod Adding
-pub mod Answer
-pub mod Back
-pub mod Ghost
 pub mod Order
+pub mod Adding
 pub mod Shows
+pub mod Ghost
+pub mod Answer

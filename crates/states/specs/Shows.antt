@@ -1,18 +1,15 @@
 -- How a place of the store shows a state of the search (a hypothesis): all but the steps that led to it.
 -- n is the direction's number of words. Nothing here depends on the book, so code that only reads states speaks of these alone.
 use mathlib.Core.Path.{_≡_}
-use mathlib.Core.List.{List, []}
+use mathlib.Core.List.{List}
 use Prim.Native.Nat.{ℕ, _<_, _≤_, _^_}
-use lib.IntN.{ℤ, pos}
+use lib.IntN.{ℤ}
 use lib.ListN.{length, getD}
 use Rattle.meaning.specs.State.{Hyp, wordsCovered, keyOf}
 use Rattle.meaning.specs.declared.State.{State}
 use Rattle.store.specs.Store.{placeAt}
 use Rattle.store.specs.declared.Place.{Place}
-
--- what `getD` gives past the end: nothing depends on it
-abbrev pub nobody : Hyp
-nobody = record { key = record { word1 = 0; word2 = 0; covered = []; r = 0 }; score = pos 0; steps = [] }
+use Rattle.ways.specs.Back.{nobody}
 
 -- no position past the last word is covered
 pub record Fine (n : ℕ) (x : State) : Type 0 where

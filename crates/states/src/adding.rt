@@ -6,19 +6,21 @@ use store::Place;
 use store::index;
 use store::places;
 ghost use Rattle.store.specs.Store.{Storable, Indexed};
+ghost use Rattle.states.specs.Order.{Leading};
 ghost use Rattle.states.specs.Adding.{AddedOf, IndexedAfter};
 
 // Adds x to the count states: it takes the place of an equal one if it is better, and a new place if there is no equal one.
 pub fn add_place(store: &mut [i64], count: usize, x: Place) -> Added
     requires { ⌜ Indexed (now store) count ⌝ }
     requires { ⌜ Storable x ⌝ }
+    requires { ⌜ Leading (now store) count x ⌝ }
     ensures { λ r. ⌜ AddedOf (now (store .entry)) (now (store .exit)) count x r ⌝ }
     ensures { λ r. ⌜ IndexedAfter (now (store .exit)) count r ⌝ }
 {
     match index::find_equal(store, count, x.state) {
         Found::At(k) => {
             let old = places::place_at(store, k);
-            if order::is_better(x.state, old.state) {
+            if order::is_better(store, x, old.state, k) {
                 places::put_place(store, k, x);
                 Added::Replaced
             } else {

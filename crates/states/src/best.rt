@@ -16,7 +16,9 @@ ghost use Rattle.meaning.specs.State.{Hyp, wordsCovered, isBetter, scoreBound};
 ghost use Rattle.meaning.specs.Search.{bestScore};
 ghost use Rattle.states.specs.Shows.{Lists};
 ghost use Rattle.states.specs.Ghost.{inWidth};
-ghost use Rattle.states.specs.Answer.{sized, raised, closedAt, Below, chosenOf, noClose, picked};
+ghost use Rattle.ways.specs.Ties.{Walked};
+ghost use Rattle.states.specs.Order.{Walks};
+ghost use Rattle.states.specs.Answer.{sized, raised, closedAt, Below, noClose, picked, withPlace};
 
 // The best score with that of x, if x covers i words.
 fn raise(top: Top, x: Place, i: usize) -> Top
@@ -68,18 +70,19 @@ pub fn is_within(top: i64, x: State, width: i64) -> bool
     }
 }
 
-// The state with what it gains at the end of the search, before the best one is picked: it gains nothing.
-fn closed(x: State) -> State
+// A place whose state has what it gains at the end of the search, before the best one is picked: it gains nothing.
+fn closed(x: Place) -> Place
     ensures { λ r. ⌜ ((n : ℕ) → r ≡ closedAt n x) ⌝ }
 {
     x
 }
 
-// The better of a place and the place k, if that covers n words, with what their states gain at the end; the first of two that are equally good.
-fn better_of(store: &[i64], best: Found, k: usize, n: usize) -> Found
-    requires { ⌜ 8 * k + 8 ≤ length (now store) ⌝ }
-    requires { ⌜ Below k best ⌝ }
-    ensures { λ r. ⌜ r ≡ chosenOf n (now (store .entry)) best k ⌝ }
+// The better of a place and the place k, if that covers n words, with what their states gain at the end. (`count` is for the contract.)
+fn better_of(store: &[i64], count: usize, best: Found, k: usize, n: usize) -> Found
+    requires { ⌜ Walks (now store) count × (k < count) ⌝ }
+    requires { ⌜ Below n (now store) k best ⌝ }
+    ensures { λ r. ⌜ Below n (now (store .entry)) (k + 1) r ⌝ }
+    ensures { λ r. ⌜ ((l : List Hyp) → Walked (now (store .entry)) l → Lists n (now (store .entry)) count l → picked l r ≡ withPlace n (now (store .entry)) l best k) ⌝ }
 {
     let x = places::place_at(store, k);
     if x.size != n {
@@ -89,7 +92,7 @@ fn better_of(store: &[i64], best: Found, k: usize, n: usize) -> Found
         Found::Nothing => Found::At(k),
         Found::At(j) => {
             let y = places::place_at(store, j);
-            if order::is_better(closed(x.state), closed(y.state)) {
+            if order::is_better(store, closed(x), closed(y).state, j) {
                 Found::At(k)
             } else {
                 Found::At(j)
@@ -98,16 +101,16 @@ fn better_of(store: &[i64], best: Found, k: usize, n: usize) -> Found
     }
 }
 
-// The place of the best state that covers n words, of the first count.
+// The place of the best state that covers n words, of the first count: "a highest score in set n", and of those the one whose steps come first.
 pub fn pick_best(store: &[i64], count: usize, n: usize) -> Found
-    requires { ⌜ 8 * count ≤ length (now store) ⌝ }
-    ensures { λ r. ⌜ Below count r ⌝ }
-    ensures { λ r. ⌜ ((l : List Hyp) → Lists n (now (store .entry)) count l → pick wordsCovered n noClose isBetter none l ≡ picked l r) ⌝ }
+    requires { ⌜ Walks (now store) count ⌝ }
+    ensures { λ r. ⌜ Below n (now (store .entry)) count r ⌝ }
+    ensures { λ r. ⌜ ((l : List Hyp) → Walked (now (store .entry)) l → Lists n (now (store .entry)) count l → pick wordsCovered n noClose isBetter none l ≡ picked l r) ⌝ }
 {
     let mut best = Found::Nothing;
     let mut k = 0;
     while k < count {
-        best = better_of(store, best, k, n);
+        best = better_of(store, count, best, k, n);
         k += 1;
     }
     best

@@ -2,7 +2,6 @@
 pub mod adding;
 pub mod best;
 pub mod order;
-pub mod paths;
 
 // What was done with a state: it took the place of an equal one, or the equal one stayed, or it is a new one, or there was no place left.
 pub enum Added {

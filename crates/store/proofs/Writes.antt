@@ -74,7 +74,7 @@ places-same st new j z e =
           };
       size = natOf (e 2 (omega arith) (omega arith) i) % 64;
       parent = natOf (e 4 (omega arith) (omega arith) i);
-      option = natOf (e 5 (omega arith) (omega arith) i);
+      step = natOf (e 5 (omega arith) (omega arith) i);
     }
 
 -- ---- the six writes of `put_place`
@@ -99,7 +99,7 @@ module _ (st : List ℤ) (k : ℕ) (h : 8 * k + 8 ≤ length st) (a b c s d e : 
   put-spare = record { numbers = λ p f. from-far (a ∷ b ∷ c ∷ s ∷ d ∷ e ∷ []) st (8 * k) p (pos 0) f }
 
   pub put-all : (x : Place) → Sized (x .state) → Storable x → a ≡ pos (wordsOf (x .state)) → b ≡ pos (x .state .covered) → c ≡ pos (x .state .r * 64 + x .size)
-      → s ≡ x .state .score → d ≡ pos (x .parent) → e ≡ pos (x .option) → Put st after k x
+      → s ≡ x .state .score → d ≡ pos (x .parent) → e ≡ pos (x .step) → Put st after k x
   unfolding placeAt
   put-all x z y ea eb ec es ed ee =
       let w1 = z .word1-fits in
@@ -123,7 +123,7 @@ module _ (st : List ℤ) (k : ℕ) (h : 8 * k + 8 ≤ length st) (a b c s d e : 
                   };
               size = size-part _ (x .state .r) (x .size) rest ws i;
               parent = ap natOf (near 3 (omega arith) ∙ ed) i;
-              option = ap natOf (near 4 (omega arith) ∙ ee) i;
+              step = ap natOf (near 4 (omega arith) ∙ ee) i;
             };
         other = λ j n. places-same st after j (away-0 j n) (λ f l m. away j f n (omega arith));
       }

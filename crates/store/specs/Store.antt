@@ -34,7 +34,7 @@ placeAt st k =
           };
       size = natAt st k 2 % 64;
       parent = natAt st k 4;
-      option = natAt st k 5;
+      step = natAt st k 5;
     }
 
 unfoldable pub headAt : List ℤ → ℕ → ℕ
@@ -53,7 +53,7 @@ wordsOf x = x .word1 * 65536 + x .word2
 pub record Storable (x : Place) : Type 0 where
   pub size-fits : x .size < 64
   pub parent-fits : x .parent < 2 ^ 63
-  pub option-fits : x .option < 2 ^ 63
+  pub step-fits : x .step < 2 ^ 63
 
 -- the place k now holds x, and no other changed
 pub record Put (old new : List ℤ) (k : ℕ) (x : Place) : Type 0 where

@@ -18,7 +18,7 @@ pub fn place_at(store: &[i64], k: usize) -> Place
     let rest = numbers::nat_at(store, o + 2);
     let score = store[o + 3];
     let parent = numbers::nat_at(store, o + 4);
-    let option = numbers::nat_at(store, o + 5);
+    let step = numbers::nat_at(store, o + 5);
     Place {
         state: State {
             word1: (words / 65536 % 65536) as u16,
@@ -29,7 +29,7 @@ pub fn place_at(store: &[i64], k: usize) -> Place
         },
         size: rest % 64,
         parent,
-        option,
+        step,
     }
 }
 
@@ -55,7 +55,7 @@ pub fn put_place(store: &mut [i64], k: usize, x: Place)
     let score = s.score;
     store[o + 3] = score;
     store[o + 4] = numbers::int(x.parent);
-    store[o + 5] = numbers::int(x.option);
+    store[o + 5] = numbers::int(x.step);
 }
 
 // The place k holds a state that is equal to x.

@@ -83,7 +83,7 @@ pub fn run(seed: u64, count: usize) -> Tally {
 }
 
 /// An answer is what 01 says of it: valid steps, their score, their words.
-pub fn check_answer(list: &[i32], book: &Book, direction: &[u16], answer: &Answer) {
+fn check_answer(list: &[i32], book: &Book, direction: &[u16], answer: &Answer) {
     assert!(
         plain::valid(book, direction, &answer.steps),
         "{list:?} {direction:?} {answer:?}"
@@ -98,9 +98,25 @@ pub fn check_answer(list: &[i32], book: &Book, direction: &[u16], answer: &Answe
     assert!(answer.score.abs() <= 298_240_000);
 }
 
+/// A decode, from question 13 on, against the plain sets: the same answer, or the same refusal.
+pub fn check_plainly(
+    list: &[i32],
+    direction: &[u16],
+    width: i64,
+    store: usize,
+    result: &Result<Answer, u8>,
+) {
+    let book = check_book(list).expect("a good book");
+    let expected = plain::answer(&book, direction, width, store / 8);
+    assert_eq!(*result, expected, "{list:?} {direction:?} {width}");
+    if let Ok(answer) = result {
+        check_answer(list, &book, direction, answer);
+    }
+}
+
 /// A good book and direction: the search by sets against the recursion and the walks.
 fn search_round(rng: &mut Rng, shape: &Shape, tally: &mut Tally) {
-    let (list, book, direction, best, top_count, total) = loop {
+    let (list, book, direction, found) = loop {
         let list = gen::book_saying(rng, shape, 0);
         let book = check_book(&list).expect("a good book");
         let direction = if rng.chance(1, 2) {
@@ -109,13 +125,14 @@ fn search_round(rng: &mut Rng, shape: &Shape, tally: &mut Tally) {
             gen::direction_from(rng, shape, &book)
         };
         if let Some(found) = plain::best(&book, &direction, MOST_DERIVATIONS) {
-            break (list, book, direction, found.score, found.top, found.total);
+            break (list, book, direction, found);
         }
         tally.meet("inputs left aside (3,000 derivations or more)");
     };
     tally.meet("good inputs searched and listed");
-    if top_count > 1 {
-        tally.meet("good inputs with several best derivations");
+    let (best, total) = (found.score(), found.total);
+    if found.top > 1 {
+        tally.meet("good inputs with several derivations of the top score");
     }
     if total > 1 {
         tally.meet("good inputs with more than one derivation");
@@ -125,19 +142,20 @@ fn search_round(rng: &mut Rng, shape: &Shape, tally: &mut Tally) {
         .unwrap()
         .len();
 
-    // Pruning off.
+    // Pruning off: "no valid derivation of that score comes earlier".
     let off = decode(&list, &direction, -1, n, 8 * n, AMPLE);
     tally.reply("decode, pruning off", &off);
-    match (&off, best) {
-        (Ok(answer), Some(best)) => {
-            assert_eq!(answer.score, best, "{list:?} {direction:?}");
+    match (&off, &found.one) {
+        (Ok(answer), Some(one)) => {
+            let given = (answer.score, answer.steps.clone());
+            assert_eq!(given, *one, "{list:?} {direction:?}");
             assert_eq!(answer.states, states, "{list:?} {direction:?}");
             check_answer(&list, &book, &direction, answer);
         }
         (Err(14), None) => {}
         _ => panic!("{off:?} but {best:?}: {list:?} {direction:?}"),
     }
-    assert_eq!(plain::by_lists(&book, &direction, None), (states, best));
+    assert_eq!(plain::by_lists(&book, &direction, -1), (states, found.one));
     if rng.chance(1, 10) && total < 200 {
         let all = all_derivations(&list, &direction).unwrap();
         assert_eq!(all.len(), total);
@@ -179,24 +197,18 @@ fn search_round(rng: &mut Rng, shape: &Shape, tally: &mut Tally) {
     for _ in 0..2 {
         let width = gen::width(rng, shape);
         let result = decode(&list, &direction, width, n, 8 * n, AMPLE);
-        let plain_width = if width == -1 { None } else { Some(width) };
-        let (entered, top) = plain::by_lists(&book, &direction, plain_width);
+        let entered = plain::by_lists(&book, &direction, width).0;
         tally.reply("decode, any width", &result);
-        match (&result, top) {
-            (Ok(answer), Some(top)) => {
-                assert_eq!((answer.states, answer.score), (entered, top));
-                check_answer(&list, &book, &direction, answer);
-                if Some(top) != best {
-                    tally.meet("widths that lost the best derivation");
-                }
+        check_plainly(&list, &direction, width, AMPLE, &result);
+        match (&result, &off) {
+            (Ok(answer), Ok(best)) if answer.score != best.score => {
+                tally.meet("widths that lost the best derivation");
             }
-            (Err(code), None) => {
-                assert_eq!(*code, if width == -1 { 14 } else { 15 });
-                if best.is_some() {
-                    tally.meet("widths that emptied the last set");
-                }
+            (Ok(answer), Ok(best)) if answer.steps != best.steps => {
+                tally.meet("widths that lost the first of the top score");
             }
-            _ => panic!("{result:?} but {top:?}: {list:?} {direction:?} {width}"),
+            (Err(_), Ok(_)) => tally.meet("widths that emptied the last set"),
+            _ => {}
         }
         if entered < states {
             tally.meet("widths that left states out");
@@ -464,86 +476,43 @@ fn mixed_round(rng: &mut Rng, shape: &Shape, tally: &mut Tally) {
     let result = case.answer();
     tally.reply("decode, anything", &result);
     let n = case.direction.len();
-    let expected = (|| {
-        let code = plain::loaded_verdict(&case.book);
-        if code != 0 {
-            return Err(code);
-        }
-        if n == 0 || n > 32 {
-            return Err(9);
-        }
-        if case.direction.contains(&0) {
-            return Err(10);
-        }
-        if case.width < -1 {
-            return Err(11);
-        }
-        if case.steps_len < n || case.words_len < 8 * n {
-            return Err(12);
-        }
-        let book = check_book(&case.book).unwrap();
-        let width = if case.width < 0 {
-            None
-        } else {
-            Some(case.width)
-        };
-        let (states, best) = plain::by_lists(&book, &case.direction, width);
-        if states > case.store_len / 8 {
-            return Err(13);
-        }
-        match best {
-            Some(best) => Ok((best, states)),
-            None => Err(if width.is_none() { 14 } else { 15 }),
-        }
-    })();
-    match (&result, expected) {
-        (Ok(answer), Ok(expected)) => {
-            assert_eq!((answer.score, answer.states), expected, "{case:?}");
-            let book = check_book(&case.book).unwrap();
-            check_answer(&case.book, &book, &case.direction, answer);
-        }
-        (Err(given), Err(code)) => assert_eq!(*given, code, "{case:?}"),
-        _ => panic!("{result:?} but {expected:?}: {case:?}"),
+    let refused = match plain::loaded_verdict(&case.book) {
+        0 if n == 0 || n > 32 => 9,
+        0 if case.direction.contains(&0) => 10,
+        0 if case.width < -1 => 11,
+        0 if case.steps_len < n || case.words_len < 8 * n => 12,
+        code => code,
+    };
+    if refused != 0 {
+        return assert_eq!(result, Err(refused), "{case:?}");
     }
+    let (width, store) = (case.width, case.store_len);
+    check_plainly(&case.book, &case.direction, width, store, &result);
 }
 
-/// Longer directions: the number of states against the breadth-first walk, and the answer
-/// checked; a width against the plain sets where they are not too many.
+/// Longer directions: the number of states against the breadth-first walk; where they are not too
+/// many, the answer and that with a width against the plain sets.
 fn middle_round(rng: &mut Rng, shape: &Shape, tally: &mut Tally) {
     let list = gen::book_saying(rng, shape, 0);
     let book = check_book(&list).unwrap();
     let direction = gen::direction_from(rng, shape, &book);
     let n = direction.len();
-    let room = 3_000;
-    let result = decode(&list, &direction, -1, n, 8 * n, 8 * room);
+    let store = 8 * 3_000;
+    let result = decode(&list, &direction, -1, n, 8 * n, store);
     tally.reply("decode, longer, pruning off", &result);
-    match plain::reachable(&book, &direction, room) {
-        None => assert_eq!(result, Err(13)),
-        Some(keys) => {
-            let ended = keys.iter().any(|key| key.1.iter().all(|&c| c));
-            let (states, best) = plain::by_lists(&book, &direction, None);
-            assert_eq!(states, keys.len());
-            assert_eq!(best.is_some(), ended);
-            match &result {
-                Ok(answer) => {
-                    assert_eq!((answer.states, Some(answer.score)), (states, best));
-                    check_answer(&list, &book, &direction, answer);
-                }
-                Err(code) => assert_eq!((*code, ended), (14, false)),
-            }
-            let width = gen::width(rng, shape);
-            if width >= 0 {
-                let result = decode(&list, &direction, width, n, 8 * n, 8 * room);
-                tally.reply("decode, longer, any width", &result);
-                let (states, best) = plain::by_lists(&book, &direction, Some(width));
-                match &result {
-                    Ok(answer) => {
-                        assert_eq!((answer.states, Some(answer.score)), (states, best));
-                        check_answer(&list, &book, &direction, answer);
-                    }
-                    Err(code) => assert_eq!((*code, best), (15, None)),
-                }
-            }
-        }
+    let Some(keys) = plain::reachable(&book, &direction, store / 8) else {
+        return assert_eq!(result, Err(13));
+    };
+    let ended = keys.iter().any(|key| key.1.iter().all(|&c| c));
+    match &result {
+        Ok(answer) => assert_eq!((answer.states, ended), (keys.len(), true)),
+        Err(code) => assert_eq!((*code, ended), (14, false)),
+    }
+    check_plainly(&list, &direction, -1, store, &result);
+    let width = gen::width(rng, shape);
+    if width >= 0 {
+        let result = decode(&list, &direction, width, n, 8 * n, store);
+        tally.reply("decode, longer, any width", &result);
+        check_plainly(&list, &direction, width, store, &result);
     }
 }

@@ -1,7 +1,7 @@
 //! Cases as data, for crates/try_cases: a line is a label, `|`, and decimal numbers with one blank between two: the call, its lists (a
 //! length, then each number), its scalars. In a list `( n z .. )` is what stands in it n times; there `#` is a number that counts
 //! up from z, and `/d` is the digit of that number at d = 1, 10, 100 .., as a byte. What the second decoder says to a line is what
-//! that program is to print; the steps of a decode are free among the derivations of the top score.
+//! that program is to print.
 
 use crate::gen::DecodeCase;
 use crate::{plain, Answer, Step};
@@ -137,11 +137,18 @@ pub struct Said {
     /// The refusal's number; 0 for a result.
     pub code: u8,
     pub text: String,
+    /// Several derivations have a decode's score, the best of all (looked for where there are few derivations).
+    pub shared: bool,
 }
 
 fn said<T>(call: &'static str, reply: &Result<T, u8>, text: String) -> Said {
     let code = *reply.as_ref().err().unwrap_or(&0);
-    Said { call, code, text }
+    Said {
+        call,
+        code,
+        text,
+        shared: false,
+    }
 }
 
 /// The reply to a reading, and the list after it, held to `expected` over the garbage.
@@ -216,7 +223,17 @@ fn decoded(case: &DecodeCase, fill: u16, reply: &Result<Answer, u8>) -> Said {
         + &lent("steps", &over(steps, &no_steps), &no_steps)
         + &lent("words", &over(words, &no_words), &no_words)
         + &lent("store", &over(vec![0; zeros], &full), &full);
-    said("decode", reply, text)
+    let shared = reply.as_ref().is_ok_and(|a| shared(case, a.score));
+    Said {
+        shared,
+        ..said("decode", reply, text)
+    }
+}
+
+fn shared(case: &DecodeCase, score: i64) -> bool {
+    let book = crate::check_book(&case.book).expect("a good book");
+    plain::best(&book, &case.direction, 200)
+        .is_some_and(|best| best.top > 1 && best.score() == Some(score))
 }
 
 fn rendered(case: &mut Case) -> Said {
@@ -268,95 +285,4 @@ pub fn line_said(line: &str) -> Said {
     assert!(case.0.next().is_none(), "{label}: a number too many");
     said.text = format!("{label}: {}", said.text);
     said
-}
-
-/// The steps of a printed line, each place of the list, for a list that was full of the case's garbage.
-fn printed_steps(printed: &str, fill: u16) -> Option<Vec<Step>> {
-    let (_, rest) = printed.split_once(" steps ")?;
-    let (runs, _) = rest.split_once(" words ")?;
-    let before = garbage_steps(fill);
-    let mut all: Vec<String> = Vec::new();
-    for run in runs.split(' ') {
-        match (run.strip_prefix('~'), run.split_once('*')) {
-            (Some(n), _) => {
-                let end = all.len() + n.parse::<usize>().ok()?;
-                all.extend_from_slice(before.get(all.len()..end)?);
-            }
-            (None, Some((step, n))) => all.extend(vec![step.to_string(); n.parse().ok()?]),
-            (None, None) => all.push(run.to_string()),
-        }
-    }
-    let step = |text: &String| {
-        let numbers: Vec<u16> = text.split('.').map_while(|n| n.parse().ok()).collect();
-        match numbers[..] {
-            [first, last, entry] => Some((first, last, entry)),
-            _ => None,
-        }
-    };
-    all.iter().map(step).collect()
-}
-
-/// The answer with the steps that a line printed: by document 01 a valid derivation of the score, at the front of the list, and its
-/// words.
-fn by_rule(case: &DecodeCase, answer: &Answer, printed: &[Step]) -> Option<Answer> {
-    let book = crate::check_book(&case.book).ok()?;
-    let most = printed.len().min(case.direction.len());
-    let steps = (0..=most)
-        .map(|k| &printed[..k])
-        .find(|steps| plain::valid(&book, &case.direction, steps))?;
-    if plain::score_of(&book, steps) != answer.score {
-        return None;
-    }
-    Some(Answer {
-        steps: steps.to_vec(),
-        words: plain::words_of(&book, steps),
-        ..answer.clone()
-    })
-}
-
-/// A printed line that is what it should be.
-pub struct Held {
-    pub said: Said,
-    /// Several derivations share the top score (looked for where there are few derivations).
-    pub shared: bool,
-    /// The steps are others than the second decoder's.
-    pub others: bool,
-}
-
-/// Holds a printed line to the second decoder: word for word, but for the steps and words of a decode, which are held to the rule.
-/// Where it is not so, what the second decoder says.
-pub fn held(line: &str, printed: &str) -> Result<Held, String> {
-    let said = line_said(line);
-    if said.call != "decode" || said.code != 0 {
-        let (shared, others) = (false, false);
-        return match said.text == printed {
-            true => Ok(Held {
-                said,
-                shared,
-                others,
-            }),
-            false => Err(said.text),
-        };
-    }
-    let (label, numbers) = line.split_once('|').expect("a label and a bar");
-    let mut case = Case(numbers.split_whitespace());
-    case.number::<u8>();
-    let (asked, fill) = (case.decode(), case.number());
-    let answer = asked.answer().expect("an answer");
-    let given = printed_steps(printed, fill).and_then(|steps| by_rule(&asked, &answer, &steps));
-    let Some(given) = given else {
-        return Err(said.text);
-    };
-    let others = given.steps != answer.steps;
-    if printed != format!("{label}: {}", decoded(&asked, fill, &Ok(given)).text) {
-        return Err(said.text);
-    }
-    let book = crate::check_book(&asked.book).expect("a good book");
-    let shared = plain::best(&book, &asked.direction, 200)
-        .is_some_and(|best| best.top > 1 && best.score == Some(answer.score));
-    Ok(Held {
-        said,
-        shared,
-        others,
-    })
 }

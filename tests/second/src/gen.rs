@@ -52,16 +52,24 @@ pub struct Shape {
     pub max_source: i64,
     pub max_target: i64,
     pub max_direction: usize,
-    /// Scores from a handful of small numbers, entries repeated: ties and pruning are frequent.
-    pub ties: bool,
+    /// Scores and eta are drawn from these, entries repeated and put together: ties and pruning are
+    /// frequent. None: any scores.
+    pub ties: &'static [i64],
 }
+
+/// What a shape with ties draws its scores from.
+const FEW: [&[i64]; 4] = [&[0], &[-1, 0], &[-1, 0, 1], &[-2, -1, 0, 1]];
 
 impl Shape {
     /// Small enough that every derivation can be listed.
     pub fn small(rng: &mut Rng) -> Shape {
-        let ties = rng.chance(1, 2);
+        let ties = if rng.chance(1, 2) {
+            rng.pick(&FEW)
+        } else {
+            &[]
+        };
         let source_words = rng.between(1, 4);
-        let target_words = rng.between(1, if ties { 3 } else { 6 });
+        let target_words = rng.between(1, if ties.is_empty() { 6 } else { 3 });
         Shape {
             source_base: rng.pick(&[1, 11, 300, 65_536 - source_words]),
             source_words,
@@ -79,7 +87,7 @@ impl Shape {
     /// The same with ties and pruning frequent.
     pub fn small_ties(rng: &mut Rng) -> Shape {
         let mut shape = Shape::small(rng);
-        shape.ties = true;
+        shape.ties = rng.pick(&FEW);
         shape.target_words = shape.target_words.min(3);
         shape
     }
@@ -105,8 +113,8 @@ impl Shape {
         self.target_base + rng.below(self.target_words as usize) as i64
     }
     fn score(&self, rng: &mut Rng) -> i64 {
-        if self.ties {
-            return rng.between(-2, 1);
+        if !self.ties.is_empty() {
+            return rng.pick(self.ties);
         }
         match rng.below(8) {
             0 => rng.pick(&[-1_000_000, 1_000_000, 0, -999_999, 999_999]),
@@ -116,8 +124,8 @@ impl Shape {
         }
     }
     fn eta(&self, rng: &mut Rng) -> i64 {
-        if self.ties {
-            return rng.between(-1, 1);
+        if !self.ties.is_empty() {
+            return rng.pick(self.ties);
         }
         match rng.below(6) {
             0 => rng.pick(&[-10_000, 10_000, 0]),
@@ -154,11 +162,16 @@ pub fn lines(rng: &mut Rng, shape: &Shape) -> Lines {
         }
     }
     let goal = rng.below(shape.max_phrases + 1);
+    let one_of = if shape.ties.is_empty() { 20 } else { 6 };
     while phrases < goal {
-        if !body.is_empty() && rng.chance(1, if shape.ties { 6 } else { 20 }) {
+        if !body.is_empty() && rng.chance(1, one_of) {
             // An equal entry.
             let line = body[rng.below(body.len())].clone();
             body.push(line);
+        } else if !body.is_empty() && rng.chance(1, one_of) {
+            // Two entries' words and scores in one.
+            let (one, other) = (rng.below(body.len()), rng.below(body.len()));
+            body.push(put_together(&body[one], &body[other]));
         } else {
             let a = rng.between(1, shape.max_source);
             let b = rng.between(1, shape.max_target);
@@ -197,6 +210,23 @@ pub fn lines(rng: &mut Rng, shape: &Shape) -> Lines {
     let mut all = vec![vec![1, d, shape.eta(rng), shape.score(rng)]];
     all.extend(body);
     all
+}
+
+/// A P line that says what two say one after the other, at the same score; the first of them where
+/// it would be too long or its score out of range.
+fn put_together(one: &[i64], other: &[i64]) -> Vec<i64> {
+    let parts = |line: &[i64]| {
+        let (words, at) = (&line[3..line.len() - 1], line[1] as usize);
+        (words[..at].to_vec(), words[at..].to_vec())
+    };
+    let ((x1, y1), (x2, y2)) = (parts(one), parts(other));
+    let (source, target) = ([x1, x2].concat(), [y1, y2].concat());
+    let score = one[one.len() - 1] + other[other.len() - 1];
+    if source.len() > 8 || target.len() > 8 || score.abs() > 1_000_000 {
+        return one.to_vec();
+    }
+    let sizes = vec![2, source.len() as i64, target.len() as i64];
+    [sizes, source, target, vec![score]].concat()
 }
 
 /// A good book of just so many P and T lines (each T line with words of its own).
@@ -659,7 +689,7 @@ pub fn width(rng: &mut Rng, shape: &Shape) -> i64 {
         0 | 1 => -1,
         2 => 0,
         3 => rng.pick(&[596_480_000, 596_479_999, i64::MAX, i64::MAX - 1]),
-        _ if shape.ties => rng.between(0, 4),
+        _ if !shape.ties.is_empty() => rng.between(0, 4),
         4 => rng.between(0, 2_000_000),
         _ => rng.between(0, 4_000),
     }

@@ -1,5 +1,5 @@
-//! A second decoder, written from the papers alone (01-scope.md, and Collins' notes 000, 001,
-//! 002). Standard library only. Refusals are the question numbers of 01.
+//! A second decoder, written from the papers alone (01-scope.md, ticket 1 of 02-change-requests.md,
+//! and Collins' notes 000, 001, 002). Standard library only. Refusals are the question numbers of 01.
 
 use std::collections::HashMap;
 
@@ -385,9 +385,28 @@ type Key = (u16, u16, u32, u8);
 struct State {
     key: Key,
     score: i64,
+    way: Way,
+}
+
+impl State {
+    /// Does this state yield to another of its set, of that score and way?
+    fn yields(&self, score: i64, way: &Way, sets: &[Set]) -> bool {
+        score > self.score || (score == self.score && comes_first(sets, way, &self.way))
+    }
+}
+
+/// The way back: the last step, and where the state that it was taken from stands.
+#[derive(Clone, Copy)]
+struct Way {
     from_set: u8,
     from_at: u32,
     step: Step,
+}
+
+impl Way {
+    fn from<'a>(&self, sets: &'a [Set]) -> &'a State {
+        &sets[self.from_set as usize].states[self.from_at as usize]
+    }
 }
 
 /// A phrase at a place where it fits.
@@ -406,6 +425,22 @@ struct Fit<'a> {
 struct Set {
     states: Vec<State>,
     at: HashMap<Key, u32>,
+}
+
+/// "Among derivations of equal score the first in order wins": do the steps that lead along `a` come
+/// before those along `b`, another way to the same set? The same steps lead to the same state, so
+/// that the lists of steps part just after the last state that both ways go through.
+/// Not inlined: with scores that differ it is not called.
+#[inline(never)]
+fn comes_first<'a>(sets: &'a [Set], mut a: &'a Way, mut b: &'a Way) -> bool {
+    while (a.from_set, a.from_at) != (b.from_set, b.from_at) {
+        if a.from_set < b.from_set {
+            b = &b.from(sets).way;
+        } else {
+            a = &a.from(sets).way;
+        }
+    }
+    a.step < b.step
 }
 
 /// Questions 2 to 6, 9 to 15. The lists are lent by their lengths alone: places for steps, places
@@ -439,9 +474,11 @@ pub fn search(book: &Book, direction: &[u16], width: i64, room: usize) -> Result
     let start = State {
         key: (0, 0, 0, 0),
         score: 0,
-        from_set: 0,
-        from_at: 0,
-        step: (0, 0, 0),
+        way: Way {
+            from_set: 0,
+            from_at: 0,
+            step: (0, 0, 0),
+        },
     };
     sets[0].states.push(start);
     let mut entered = 1usize;
@@ -450,9 +487,10 @@ pub fn search(book: &Book, direction: &[u16], width: i64, room: usize) -> Result
     }
 
     for i in 0..n {
-        // No later step adds to set i, so it may be taken out while the later ones grow.
-        let states = std::mem::take(&mut sets[i].states);
-        sets[i].at = HashMap::new();
+        // No later step adds to sets 0 to i, while the later ones grow.
+        let (done, later) = sets.split_at_mut(i + 1);
+        done[i].at = HashMap::new();
+        let states = &done[i].states;
         let best = states.iter().map(|q| q.score).max().unwrap_or(0);
         for (from_at, q) in states.iter().enumerate() {
             // Scores differ by no more than 596,480,000, so this side cannot overflow.
@@ -482,18 +520,17 @@ pub fn search(book: &Book, direction: &[u16], width: i64, room: usize) -> Result
                         (e1, e2) = (w, fit.target[0]);
                     }
                     let key = (e1, e2, covered | fit.mask, fit.last as u8);
-                    let state = State {
-                        key,
-                        score,
+                    let way = Way {
                         from_set: i as u8,
                         from_at: from_at as u32,
                         step: (fit.first as u16, fit.last as u16, fit.entry),
                     };
-                    let set = &mut sets[key.2.count_ones() as usize];
+                    let state = State { key, score, way };
+                    let set = &mut later[key.2.count_ones() as usize - i - 1];
                     match set.at.entry(key) {
                         std::collections::hash_map::Entry::Occupied(at) => {
                             let old = &mut set.states[*at.get() as usize];
-                            if score > old.score {
+                            if old.yields(score, &way, done) {
                                 *old = state;
                             }
                         }
@@ -509,12 +546,11 @@ pub fn search(book: &Book, direction: &[u16], width: i64, room: usize) -> Result
                 }
             }
         }
-        sets[i].states = states;
     }
 
     let mut best: Option<&State> = None;
     for q in &sets[n].states {
-        if best.is_none_or(|b| q.score > b.score) {
+        if best.is_none_or(|b| b.yields(q.score, &q.way, &sets)) {
             best = Some(q);
         }
     }
@@ -524,8 +560,8 @@ pub fn search(book: &Book, direction: &[u16], width: i64, room: usize) -> Result
     let score = q.score;
     let mut steps = Vec::new();
     while q.key.2 != 0 {
-        steps.push(q.step);
-        q = &sets[q.from_set as usize].states[q.from_at as usize];
+        steps.push(q.way.step);
+        q = q.way.from(&sets);
     }
     steps.reverse();
     let words = steps

@@ -7,7 +7,7 @@ P,2,2,11,12,102,101,-70\nT,0,0,101,-40\nT,0,101,102,-60\nT,0,0,102,-15\nT,0,102,
 
 const USAGE: &str = "second decode BOOKFILE DIRECTIONFILE WIDTH STATES
 second score BOOKFILE DIRECTIONFILE FIRST,LAST,ENTRY ...
-second list BOOKFILE DIRECTIONFILE          every valid derivation, best first
+second list BOOKFILE DIRECTIONFILE          every valid derivation, best first, of equal score the first in order
 second load BOOKFILE                        the loaded list
 second words BOOKFILE ENTRY                 an entry's target words
 second render                               book.txt and standard input
@@ -186,7 +186,7 @@ fn drawers() -> String {
 }
 
 /// Each case as a line: book|direction|width|steps|words|store|reply (its lines parted by
-/// blanks). The steps and words of a reply are free among derivations of the top score.
+/// blanks).
 fn emit(seed: u64, count: usize, shape: &str) -> String {
     let mut rng = Rng::new(seed);
     let mut out = String::new();

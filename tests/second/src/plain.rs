@@ -1,7 +1,7 @@
-//! The same matters as plainly as the paper puts them, for checking: nothing here is shared with
-//! the search by sets but the book's record types.
+//! The same matters as plainly as the papers put them, for checking: nothing here is shared with
+//! the search by sets but the record types of the book and of the answer.
 
-use crate::{check_book, check_direction, Book, Step};
+use crate::{check_book, check_direction, Answer, Book, Step};
 use std::collections::{BTreeSet, VecDeque};
 
 /// Score of a triple, by looking through the T lines.
@@ -149,12 +149,27 @@ pub fn walk_derivations(
     )
 }
 
-/// The derivations of an input: the best score, how many have it, and how many there are.
+/// A score, and steps that have it.
+pub type Scored = (i64, Vec<Step>);
+
+/// "Among derivations of equal score the first in order wins: compare step by step by first, then
+/// last, then entry."
+pub fn wins(a: &Scored, b: &Scored) -> bool {
+    a.0 > b.0 || (a.0 == b.0 && a.1 < b.1)
+}
+
+/// The derivations of an input: the best one, how many share its score, and how many there are.
 #[derive(Default)]
 pub struct Best {
-    pub score: Option<i64>,
+    pub one: Option<Scored>,
     pub top: usize,
     pub total: usize,
+}
+
+impl Best {
+    pub fn score(&self) -> Option<i64> {
+        self.one.as_ref().map(|one| one.0)
+    }
 }
 
 /// All derivations walked; None where there are `most` or more, or where the direction is too long to walk them.
@@ -163,12 +178,15 @@ pub fn best(book: &Book, direction: &[u16], most: usize) -> Option<Best> {
         return None;
     }
     let mut best = Best::default();
-    let whole = walk_derivations(book, direction, &mut |_, score| {
-        if best.score.is_none_or(|b| score > b) {
-            best.score = Some(score);
+    let whole = walk_derivations(book, direction, &mut |steps, score| {
+        if best.score().is_none_or(|b| score > b) {
             best.top = 0;
         }
-        if best.score == Some(score) {
+        let one = (score, steps.to_vec());
+        if best.one.as_ref().is_none_or(|b| wins(&one, b)) {
+            best.one = Some(one);
+        }
+        if best.score() == Some(score) {
             best.top += 1;
         }
         best.total += 1;
@@ -230,23 +248,22 @@ pub fn reachable(book: &Book, direction: &[u16], most: usize) -> Option<BTreeSet
     Some(seen)
 }
 
-/// The search by sets in its plainest form (each set a list, equality by looking through it):
-/// the states entered and the best score of set n, if any. Width None is pruning off.
-pub fn by_lists(book: &Book, direction: &[u16], width: Option<i64>) -> (usize, Option<i64>) {
+/// The search by sets in its plainest form (each set a list, equality by looking through it, each
+/// state with all its steps): the states entered, and what wins in set n, if any. Width -1 is
+/// pruning off.
+pub fn by_lists(book: &Book, direction: &[u16], width: i64) -> (usize, Option<Scored>) {
     let n = direction.len();
     let fitting = every_fitting_step(book, direction);
-    let mut sets: Vec<Vec<(PlainKey, i64)>> = vec![Vec::new(); n + 1];
-    sets[0].push((([0, 0], vec![false; n], 0), 0));
+    let mut sets: Vec<Vec<(PlainKey, Scored)>> = vec![Vec::new(); n + 1];
+    sets[0].push((([0, 0], vec![false; n], 0), (0, Vec::new())));
     for i in 0..n {
         let set = sets[i].clone();
-        let Some(best) = set.iter().map(|q| q.1).max() else {
+        let Some(best) = set.iter().map(|q| q.1 .0).max() else {
             continue;
         };
-        for (key, score) in &set {
-            if let Some(beta) = width {
-                if (*score as i128) < best as i128 - beta as i128 {
-                    continue;
-                }
+        for (key, (score, steps)) in &set {
+            if width != -1 && (*score as i128) < best as i128 - width as i128 {
+                continue;
             }
             for &step in &fitting {
                 if !may_extend(book, key, step) {
@@ -254,18 +271,35 @@ pub fn by_lists(book: &Book, direction: &[u16], width: Option<i64>) -> (usize, O
                 }
                 let new_key = next_key(book, key, step);
                 let new_score = next_score(book, key, *score, step);
+                let new = (new_score, [&steps[..], &[step]].concat());
                 let count = new_key.1.iter().filter(|&&c| c).count();
                 match sets[count].iter_mut().find(|q| q.0 == new_key) {
-                    Some(old) => old.1 = old.1.max(new_score),
-                    None => sets[count].push((new_key, new_score)),
+                    Some(old) if wins(&new, &old.1) => old.1 = new,
+                    Some(_) => {}
+                    None => sets[count].push((new_key, new)),
                 }
             }
         }
     }
-    (
-        sets.iter().map(Vec::len).sum(),
-        sets[n].iter().map(|q| q.1).max(),
-    )
+    let states = sets.iter().map(Vec::len).sum();
+    let last = sets.swap_remove(n).into_iter().map(|q| q.1);
+    (states, last.reduce(|a, b| if wins(&b, &a) { b } else { a }))
+}
+
+/// What questions 13 to 15 say, with room for so many states; or the answer.
+pub fn answer(book: &Book, direction: &[u16], width: i64, room: usize) -> Result<Answer, u8> {
+    let (states, best) = by_lists(book, direction, width);
+    if states > room {
+        return Err(13);
+    }
+    let (score, steps) = best.ok_or(if width == -1 { 14 } else { 15 })?;
+    let words = words_of(book, &steps);
+    Ok(Answer {
+        score,
+        states,
+        steps,
+        words,
+    })
 }
 
 // ------------------------------------------------------------------------ verdicts on reading

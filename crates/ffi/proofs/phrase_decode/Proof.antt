@@ -68,7 +68,7 @@ returns c =
     (subst (λ (w : ℤ). PlainDecodes (a .book .now) (a .direction .now) w (length (a .steps .now) / 3) (a .words .now) (c .before .before .before .before .before .before .before .before .before .before .before .before .before .before .decode-plain .last .1 .1 .1 .1 .0) (a .store .now) (c .before .before .before .before .before .before .before .before .before .before .before .before .before .before .decode-plain .last .1 .1 .1 .1 .1 .0) (c .before .before .before .before .before .before .before .before .before .before .before .before .before .before .decode-plain .result)) back (c .before .before .before .before .before .before .before .before .before .before .before .before .before .before .decode-plain .ensures))
     (a .report .now) (c .before .put-answer .last .0) (pos 0) (c .before .before .before .before .before .before .before .before .put-all .ensures)
     (sym (ap (λ (r : Decoded). zeroOrRefusal (decodedReply r)) g))
-    (c .before .put-answer .ensures ∙ sym (ap (λ (r : Decoded). filledWith (decodeReport r) (a .report .now)) g))
+    (c .before .put-answer .ensures ∙ sym (ap (λ (r : Decoded). filledWith (decodeReport (decodedReply r)) (a .report .now)) g))
 
 same-length-5 : tie.Need-same-length-5
 same-length-5 c = search needs
@@ -88,7 +88,7 @@ returns-2 c =
     (subst (λ (w : ℤ). PlainDecodes (a .book .now) (a .direction .now) w (length (a .steps .now) / 3) (a .words .now) (c .before .before .before .before .before .before .before .before .before .before .before .before .decode-plain .last .1 .1 .1 .1 .0) (a .store .now) (c .before .before .before .before .before .before .before .before .before .before .before .before .decode-plain .last .1 .1 .1 .1 .1 .0) (c .before .before .before .before .before .before .before .before .before .before .before .before .decode-plain .result)) back (c .before .before .before .before .before .before .before .before .before .before .before .before .decode-plain .ensures))
     (a .report .now) (a .report .now) _ (c .before .before .before .before .before .before .put-all .ensures)
     (code-back (c .code-of .result) (c .before .before .reply2 .given .0 .0) (c .code-of .ensures) ∙ sym (ap (λ (r : Decoded). zeroOrRefusal (decodedReply r)) g))
-    (filled-none (a .report .now) ∙ sym (ap (λ (r : Decoded). filledWith (decodeReport r) (a .report .now)) g))
+    (filled-none (a .report .now) ∙ sym (ap (λ (r : Decoded). filledWith (decodeReport (decodedReply r)) (a .report .now)) g))
 
 pub phrase-decode-spec : {M : Type 1} → statement M
 phrase-decode-spec =

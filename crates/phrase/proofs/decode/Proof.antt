@@ -1,6 +1,6 @@
 -- The core is asked, with the words and the store on loan, and its steps are written over the caller's records; the reply is the core's. A walk of the MIR, by hand, a straight line of two calls.
 -- Each `&mut` is passed on once, at its own lifetime, share and name, and given up for good; the book and the direction are had twice, one copy for the core, one for the exit.
-use mathlib.Core.Path.{_≡_, refl, sym, ap, subst}
+use mathlib.Core.Path.{_≡_, refl, ap, subst}
 use Prim.Native.Nat.{ℕ, _≤_}
 use mathlib.Core.List.{[], _∷_, List}
 use lib.IntN.{ℤ}
@@ -46,6 +46,7 @@ use Rattle.meaning.specs.Reply.{writtenOver, Decodes}
 use Rattle.records.specs.Plain.{stepsOf}
 use Rattle.answer.specs.declared.PlainReply.{PlainReply as Answer}
 use Rattle.decoder.specs.Decodes.{PlainDecodes}
+use Rattle.decoder.proofs.Replies.{decodes-into}
 use Rattle.records.proofs.Walk.{tyAt}
 use Rattle.meaning.proofs.Step as T
 use Rattle.meaning.proofs.Decoded as R
@@ -84,8 +85,7 @@ Wanted = Decodes
 concludes : (book : List ℤ) (direction : List ℕ) (width : ℤ) (steps₀ steps₁ : List Step) (words₀ words₁ : List ℕ) (store₀ store₁ : List ℤ) (r : Answer)
     → Said book direction width (length steps₀) words₀ words₁ store₀ store₁ r → steps₁ ≡ writtenOver (stepsOf (r .plain)) steps₀
     → Wanted book direction width steps₀ steps₁ words₀ words₁ store₀ store₁ (r .reply)
-concludes book direction width steps₀ steps₁ words₀ words₁ store₀ store₁ r e e′ =
-    subst (λ (s : List Step). Decodes book direction width steps₀ s words₀ words₁ store₀ store₁ (r .reply)) (sym e′) (e .decodes steps₀ refl)
+concludes book direction width steps₀ steps₁ words₀ words₁ store₀ store₁ r e e′ = decodes-into e e′
 
 abbrev stayed : Stays (f.ended .signature .params) (f.ended .kept)
 stayed = (stay-none-slice (0 ∷ []) tt (plain (λ _. i32)) yes, (stay-none-slice (1 ∷ []) tt (plain (λ _. u16)) yes, (stay-none (λ _. i64) yes, (gave-slice (2 ∷ []) tt (plain (λ _. T.the-row)), (gave-slice (3 ∷ []) tt (plain (λ _. u16)), (gave-slice (4 ∷ []) tt (plain (λ _. i64)), tt))))))

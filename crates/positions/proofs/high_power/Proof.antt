@@ -19,8 +19,5 @@ returns-4 c = let e : c .before .args .i ≡ 3 = omega arith in rw e
 returns-5 : tie.Need-returns-5
 returns-5 c = let e : c .before .args .i ≡ 4 = omega arith in rw e
 
-returns-6 : tie.Need-returns-6
-returns-6 c = let e : c .before .args .i ≡ 5 = omega arith in rw e
-
 pub high-power-spec : {M : Type 1} → statement M
-high-power-spec = tie.close (tie.spec returns returns-2 returns-3 returns-4 returns-5 returns-6)
+high-power-spec = tie.close (tie.spec returns returns-2 returns-3 returns-4 returns-5)

@@ -1,6 +1,7 @@
 -- Each case is computed.
 use native.Mathlib.Omega.{arith}
 use mathlib.Core.Path.{_≡_}
+use Rattle.positions.proofs.Laws.{last-of-eight}
 use Rattle.positions.proofs.low_power.Statement.{statement}
 use Rattle.positions.proofs.low_power.Tie as tie
 
@@ -22,5 +23,11 @@ returns-5 c = let e : c .before .args .i ≡ 4 = omega arith in rw e
 returns-6 : tie.Need-returns-6
 returns-6 c = let e : c .before .args .i ≡ 5 = omega arith in rw e
 
+returns-7 : tie.Need-returns-7
+returns-7 c = let e : c .before .args .i ≡ 6 = omega arith in rw e
+
+returns-8 : tie.Need-returns-8
+returns-8 c = let h = c .match .rest in let e : c .before .args .i ≡ 7 = last-of-eight (c .before .args .i) (c .before .pre) (h .0 .0 .0 .0 .0 .0 .1) (h .0 .0 .0 .0 .0 .1) (h .0 .0 .0 .0 .1) (h .0 .0 .0 .1) (h .0 .0 .1) (h .0 .1) (h .1) in rw e
+
 pub low-power-spec : {M : Type 1} → statement M
-low-power-spec = tie.close (tie.spec returns returns-2 returns-3 returns-4 returns-5 returns-6)
+low-power-spec = tie.close (tie.spec returns returns-2 returns-3 returns-4 returns-5 returns-6 returns-7 returns-8)

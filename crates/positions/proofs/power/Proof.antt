@@ -1,4 +1,4 @@
--- 2 to the power of i is 2 to the power of its remainder by 6, times a power of 64.
+-- 2 to the power of i is 2 to the power of its remainder by 8, times a power of 256.
 use Prim.Native.Nat.{_*_, _^_, _≤_}
 use native.Mathlib.Omega.{arith}
 use mathlib.Core.Path.{_≡_}

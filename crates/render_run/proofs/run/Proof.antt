@@ -1,6 +1,7 @@
 -- Each count lies within its list.
 use mathlib.Core.Path.{sym}
 use lib.Seq.{length-take-le}
+use Rattle.rendering.proofs.Short.{rendered-inside}
 use borrow.Author.Needs.{needs}
 use Rattle.render_run.proofs.run.Statement.{statement}
 use Rattle.render_run.proofs.run.Tie as tie
@@ -33,10 +34,10 @@ render-requires : tie.Need-render-requires
 render-requires c κs = search needs
 
 array-share-prefix-out : tie.Need-array-share-prefix-out
-array-share-prefix-out c = search needs
+array-share-prefix-out c = rendered-inside _ _ _ (c .render .ensures .0) (c .render .ensures .1)
 
 slice-aggregate-write-all : tie.Need-slice-aggregate-write-all
-slice-aggregate-write-all c = sym (length-take-le _ _ (c .before .render .ensures .within))
+slice-aggregate-write-all c = sym (length-take-le _ _ (rendered-inside _ _ _ (c .before .render .ensures .0) (c .before .render .ensures .1)))
 
 write-all-requires : tie.Need-write-all-requires
 write-all-requires c κs = search needs

@@ -1,10 +1,7 @@
 -- What was decoded fits the output, and what is put is printed as the definition says.
-use mathlib.Core.Path.{refl, sym, subst}
+use mathlib.Core.Path.{refl}
 use native.Mathlib.Omega.{arith}
-use Rattle.meaning.specs.Book.{bookOf}
-use Rattle.meaning.specs.Render.{PrintsReply}
-use Rattle.decimals.proofs.Laws.{put-first, put-rest}
-use Rattle.rendering.specs.Parts.{decodeOff}
+use Rattle.decimals.proofs.Laws.{put-is}
 use Rattle.rendering.proofs.Answered.{reply-fits, reply-prints}
 use borrow.Author.Needs.{needs}
 use Rattle.rendering.proofs.put_decode.Statement.{statement}
@@ -38,17 +35,7 @@ returns : tie.Need-returns
 returns c =
     let c2 = c .before .before in
     let c9 = c2 .before .before .before .before .before .before .before in
-    let s = c9 .before .before .before .before .before in
-    let book = s .args .book .now in
-    let direction = s .args .direction .now in
-    let p = put-first (c2 .put-decoded .ensures) in
-    record {
-      within = p .0;
-      is =
-          subst (PrintsReply (bookOf book) direction (decodeOff book direction)) (sym (p .1))
-          (reply-prints _ _ _ _ _ _ _ (c9 .decode-plain .ensures) refl (search needs) refl);
-      rest = put-rest (c2 .put-decoded .ensures);
-    }
+    put-is (reply-prints _ _ _ _ _ _ _ (c9 .decode-plain .ensures) refl (search needs) refl) (c2 .put-decoded .ensures)
 
 pub put-decode-spec : {M : Type 1} → statement M
 put-decode-spec =

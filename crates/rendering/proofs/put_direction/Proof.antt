@@ -3,7 +3,7 @@ use mathlib.Core.Path.{sym}
 use native.Mathlib.Omega.{arith}
 use lib.Seq.{length-take-le}
 use Rattle.meaning.specs.Direction.{readDirectionRefusal, directionOf}
-use Rattle.decimals.proofs.Laws.{put-first, put-rest}
+use Rattle.decimals.proofs.Laws.{put-is}
 use Rattle.rendering.proofs.Inputs.{Filled, direction-filled, direction-refusal, direction-refused, direction-decoded}
 use Rattle.printing.proofs.Lengths.{refusal-short}
 use borrow.Author.Needs.{needs}
@@ -48,8 +48,7 @@ returns : tie.Need-returns
 returns c =
     let c2 = c .before .before in
     let c6 = c2 .before .before .before .before in
-    let said = c2 .put-decode .ensures in
-    record { within = said .within; is = direction-decoded _ _ _ (words-read c6) (said .is); rest = said .rest }
+    put-is (direction-decoded _ _ (words-read c6)) (c2 .put-decode .ensures)
 
 same-length-2 : tie.Need-same-length-2
 same-length-2 c = search needs
@@ -58,15 +57,10 @@ returns-2 : tie.Need-returns-2
 returns-2 c =
     let c2 = c .before .before in
     let c5 = c2 .before .before .before in
-    let p = put-first (c2 .put-refusal .ensures) in
-    record {
-      within = p .0;
-      is =
-          direction-refused _ _ _ (c5 .refusal .given .0 .0)
-          (direction-refusal _ _ 32 _ (c5 .refusal .given .1) (c5 .before .before .before .read-direction .ensures .0))
-          (p .1);
-      rest = put-rest (c2 .put-refusal .ensures);
-    }
+    put-is
+    (direction-refused _ _ (c5 .refusal .given .0 .0)
+    (direction-refusal _ _ 32 _ (c5 .refusal .given .1) (c5 .before .before .before .read-direction .ensures .0)))
+    (c2 .put-refusal .ensures)
 
 pub put-direction-spec : {M : Type 1} → statement M
 put-direction-spec =

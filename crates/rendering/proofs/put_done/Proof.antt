@@ -20,7 +20,7 @@ put-answer-requires c κs =
     let a = s .args .answer in
     let short : length (printedDone a (s .args .numbers .now) (s .args .words .now)) ≤ 4_096 = done-short a (s .args .numbers .now) (s .args .words .now) (s .pre .1 .0) (λ i. omega (arith, c3 .shared-slice-known .given i)) (λ i. omega (arith, c .before .before .shared-slice-known2 .given i)) in
     let few : length (take (a .words) (s .args .words .now)) ≡ a .words = length-take-le _ _ (omega arith) in
-    (done-printable a (s .pre .1 .0), (sym few, (omega arith, (omega arith, omega arith))))
+    (done-printable a (s .pre .1 .0), (omega arith, (omega arith, omega arith)))
 
 same-length : tie.Need-same-length
 same-length c = search needs

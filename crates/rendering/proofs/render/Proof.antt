@@ -9,7 +9,7 @@ use lib.ListN.{length}
 use lib.Seq.{length-take-le}
 use Rattle.meaning.specs.Book.{loadedOf, readRefusal}
 use Rattle.meaning.specs.declared.Refusal.the-variants.{ListTooShort}
-use Rattle.decimals.proofs.Laws.{put-first, put-rest}
+use Rattle.decimals.proofs.Laws.{put-is, put-over}
 use Rattle.rendering.proofs.Inputs.{Filled, book-filled, book-refusal, too-long, book-refused, book-read}
 use Rattle.printing.proofs.Lengths.{refusal-short}
 use borrow.Author.Needs.{needs}
@@ -37,8 +37,7 @@ put-refusal-requires c κs =
 returns : tie.Need-returns
 returns c =
     let c2 = c .before .before in
-    let p = put-first (c .put-refusal .ensures) in
-    record { within = p .0; is = too-long _ _ _ (sym (c2 .before .are-short .ensures) ∙ not-true _ (c2 .if1 .taken)) (p .1); rest = put-rest (c .put-refusal .ensures) }
+    put-over (put-is (too-long _ _ (sym (c2 .before .are-short .ensures) ∙ not-true _ (c2 .if1 .taken))) (c .put-refusal .ensures))
 
 slice-aggregate-read-book : tie.Need-slice-aggregate-read-book
 slice-aggregate-read-book c = search needs
@@ -70,21 +69,16 @@ put-refusal-requires-2 c κs =
 returns-2 : tie.Need-returns-2
 returns-2 c =
     let c4 = c .before .before .before .before in
-    let said = c .put-direction .ensures in
-    record { within = said .within; is = book-read _ _ _ (was-short (c4 .before .before .before .before .before)) (book-was-read c4) (said .is); rest = said .rest }
+    put-over (put-is (book-read _ _ (was-short (c4 .before .before .before .before .before)) (book-was-read c4)) (c .put-direction .ensures))
 
 returns-3 : tie.Need-returns-3
 returns-3 c =
     let c3 = c .before .before .before in
-    let p = put-first (c .put-refusal2 .ensures) in
-    record {
-      within = p .0;
-      is =
-          book-refused _ _ _ (was-short (c3 .before .before .before .before .before)) (c3 .refusal .given .0 .0)
-          (book-refusal _ _ 8_192 _ (c3 .refusal .given .1) (c3 .before .before .before .read-book .ensures .0))
-          (p .1);
-      rest = put-rest (c .put-refusal2 .ensures);
-    }
+    put-over
+    (put-is
+    (book-refused _ _ (was-short (c3 .before .before .before .before .before)) (c3 .refusal .given .0 .0)
+    (book-refusal _ _ 8_192 _ (c3 .refusal .given .1) (c3 .before .before .before .read-book .ensures .0)))
+    (c .put-refusal2 .ensures))
 
 pub render-spec : {M : Type 1} → statement M
 render-spec =

@@ -36,7 +36,7 @@ start-requires c κs = search needs
 
 -- src/lib.rt:105:5
 append-place-requires : tie.Need-append-place-requires Inv-loop μ-loop
-append-place-requires c κs = let s = c .before .before .before .before .before .before in let h = c .before .before .if1 .left in (indexed-none _ (length (s .args .store .now)) (omega arith) (s .pre .1), (omega arith, record { size-fits = omega arith; parent-fits = omega arith; option-fits = omega arith }))
+append-place-requires c κs = let s = c .before .before .before .before .before .before in let h = c .before .before .if1 .left in (indexed-none _ (length (s .args .store .now)) (omega arith) (s .pre .1), (omega arith, record { size-fits = omega arith; parent-fits = omega arith; step-fits = omega arith }))
 
 -- src/lib.rt:117:5
 loop-holds : tie.Need-loop-holds Inv-loop μ-loop

@@ -2,6 +2,7 @@
 use borrow.Author.Needs.{needs}
 use mathlib.Core.Path.{_≡_, refl, _∙_, ap}
 use Rattle.decoder.proofs.Deciding.{last-ends, told-all, found-is, concluded-by}
+use Rattle.states.proofs.Ghost.{start-walks}
 use Rattle.decoder.specs.Decodes.{refusedBy, noAnswer}
 use mir.Val.{toZ, ofZ}
 use mir.Syntax.{w64}
@@ -18,7 +19,7 @@ use Rattle.states.proofs.best.pick_best.Reads as pick-best-reads
 
 -- src/decode.rt:61:11
 pick-best-requires : tie.Need-pick-best-requires
-pick-best-requires c κs = search needs
+pick-best-requires c κs = start-walks _ _ _ (c .before .before .before .before .pre .1 .0)
 
 -- src/decode.rt:63:41
 enum-told : tie.Need-enum-told
@@ -42,7 +43,7 @@ enum-known-k c = search needs
 
 -- src/decode.rt:67:17
 trace-requires : tie.Need-trace-requires
-trace-requires c κs = let s = c .before .before .before .before .before .before .before .before .before .before .before in let b = rw (c .before .before .before .k .given .1) at (c .before .before .before .before .before .pick-best .ensures .0) in (s .pre .0, (record { state = _; ends = last-ends _ _ _ (s .pre .1 .0) _ b }, s .pre .1 .1))
+trace-requires c κs = let s = c .before .before .before .before .before .before .before .before .before .before in let b = rw (c .before .before .before .k .given .1) at (c .before .before .before .before .before .pick-best .ensures .0) .0 in (s .pre .0 .entries-at, (record { state = _; ends = last-ends _ _ _ (s .pre .1 .0) _ b }, s .pre .1 .1))
 
 -- src/decode.rt:68:13
 clear-used-requires-2 : tie.Need-clear-used-requires-2
@@ -54,7 +55,7 @@ same-length c = search needs
 
 -- src/decode.rt:44:1
 returns : tie.Need-returns
-returns c = let s = c .before .before .before .before .before .before .before .before .before .before .before .before .before .before in let back : toZ w64 (ofZ w64 (s .args .beam .width)) ≡ s .args .beam .width = search needs in let e = found-is _ _ _ (s .pre .1 .0) (s .pre .0 .n-is) _ (c .before .before .before .before .before .before .before .before .pick-best .ensures .1) (c .before .before .before .before .before .before .enum-told .given .1) in (concluded-by _ _ _ (s .pre .1 .0) e _ _ _ (c .refused .ensures ∙ ap refusedBy (c .before .no-answer .ensures ∙ ap noAnswer back), refl), c .before .before .before .before .clear-used .ensures)
+returns c = let s = c .before .before .before .before .before .before .before .before .before .before .before .before .before in let back : toZ w64 (ofZ w64 (s .args .beam .width)) ≡ s .args .beam .width = search needs in let e = found-is _ _ _ (s .pre .1 .0) (s .pre .0 .n-is) _ (c .before .before .before .before .before .before .before .before .pick-best .ensures .1) (c .before .before .before .before .before .before .enum-told .given .1) in (concluded-by _ _ _ (s .pre .1 .0) e _ _ _ (c .refused .ensures ∙ ap refusedBy (c .before .no-answer .ensures ∙ ap noAnswer back), refl), c .before .before .before .before .clear-used .ensures)
 
 -- src/decode.rt:44:1
 same-length-2 : tie.Need-same-length-2
@@ -66,7 +67,7 @@ same-length-3 c = search needs
 
 -- src/decode.rt:44:1
 returns-2 : tie.Need-returns-2
-returns-2 c = let s = c .before .before .before .before .before .before .before .before .before .before .before .before .before .before .before .before .before in let b = rw (c .before .before .before .before .before .before .before .before .before .k .given .1) at (c .before .before .before .before .before .before .before .before .before .before .before .pick-best .ensures .0) in let e = found-is _ _ _ (s .pre .1 .0) (s .pre .0 .n-is) _ (c .before .before .before .before .before .before .before .before .before .before .before .pick-best .ensures .1) (c .before .before .before .before .before .before .before .before .before .k .given .1) in (concluded-by _ _ _ (s .pre .1 .0) e _ _ _ (told-all _ _ _ (s .pre .1 .0) (c .before .before .before .before .before .trace .ensures _ (last-ends _ _ _ (s .pre .1 .0) _ b))), c .before .clear-used2 .ensures)
+returns-2 c = let s = c .before .before .before .before .before .before .before .before .before .before .before .before .before .before .before .before in let b = rw (c .before .before .before .before .before .before .before .before .before .k .given .1) at (c .before .before .before .before .before .before .before .before .before .before .before .pick-best .ensures .0) .0 in let e = found-is _ _ _ (s .pre .1 .0) (s .pre .0 .n-is) _ (c .before .before .before .before .before .before .before .before .before .before .before .pick-best .ensures .1) (c .before .before .before .before .before .before .before .before .before .k .given .1) in (concluded-by _ _ _ (s .pre .1 .0) e _ _ _ (told-all _ _ _ (s .pre .1 .0) (c .before .before .before .before .before .trace .ensures _ (last-ends _ _ _ (s .pre .1 .0) _ b))), c .before .clear-used2 .ensures)
 
 pub conclude-spec : {M : Type 1} → statement M
 conclude-spec =

@@ -41,7 +41,7 @@ enum-known-count c = search needs
 
 -- src/decode.rt:111:29
 conclude-requires : tie.Need-conclude-requires
-conclude-requires c κs = let s = c .before .before .before .before .before .before .before .before .before .before .before .before .before .before .before in (s .pre .0 .choices, (rw (c .before .before .before .count .given .1) at (c .before .before .before .before .before .before .search .ensures), s .pre .1))
+conclude-requires c κs = let s = c .before .before .before .before .before .before .before .before .before .before .before .before .before .before .before in (s .pre .0 .prepared, (rw (c .before .before .before .count .given .1) at (c .before .before .before .before .before .before .search .ensures), s .pre .1))
 
 -- src/decode.rt:87:1
 same-length : tie.Need-same-length

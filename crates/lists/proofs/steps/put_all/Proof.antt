@@ -1,5 +1,4 @@
 -- The numbers are copied one by one; three of them are a step.
-use Rattle.lists.specs.Steps.{StepsPut}
 use Rattle.lists.proofs.Threes.{put-steps}
 use Prim.Native.Nat.{ℕ, _-_, _≤_}
 use native.Mathlib.Omega.{arith}
@@ -54,17 +53,14 @@ loop-again c =
       (omega arith, length-set (l .steps) (l .j) _ ∙ l .inv .1 .1),
     )
 
-put : (c : lts.After-loop reads.Pre reads.Post Inv-loop μ-loop) → StepsPut (c .before .before .before .before .args .plain) (c .before .before .before .before .args .steps .now) (c .before .loop .steps)
-put c =
-    let a = c .before .before .before .before .args in
-    let n : length (a .plain .numbers) ≡ 99 = sym (length-map (a .plain .numbers) _) ∙ c .before .before .before .before .good .1 .0 .1 .1 .1 .0 .1 .0 .1 in
-    put-steps (a .plain) (a .steps .now) (c .before .loop .steps) (c .before .loop .j) (omega arith) (omega arith) (omega arith) (c .before .loop .inv .0)
-
 same-length : tie.Need-same-length Inv-loop μ-loop
-same-length c = (put c) .same-length
+same-length c = c .before .loop .inv .1 .1
 
 returns : tie.Need-returns Inv-loop μ-loop
-returns c = put c
+returns c =
+    let a = c .before .before .before .before .args in
+    let n : length (a .plain .numbers) ≡ 99 = sym (length-map (a .plain .numbers) _) ∙ c .before .before .before .before .good .1 .0 .1 .1 .1 .0 .1 .0 .1 in
+    put-steps (a .plain) (a .steps .now) (c .before .loop .steps) (c .before .loop .j) (omega arith) (omega arith) (c .before .loop .inv .0)
 
 pub put-all-spec : {M : Type 1} → statement M
 put-all-spec =

@@ -4,7 +4,7 @@ use Rattle.states.proofs.best.closed.Statement.{statement}
 use Rattle.states.proofs.best.closed.Tie as tie
 
 returns : tie.Need-returns
-returns c = λ n. closed-same n _
+returns c = λ n. closed-same n (c .args .x)
 
 pub closed-spec : {M : Type 1} → statement M
 closed-spec = tie.close (tie.spec returns)

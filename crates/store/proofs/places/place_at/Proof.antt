@@ -76,7 +76,7 @@ returns c =
           };
       size = c .before .before .before .nat-at3 .ensures i % 64;
       parent = c .before .nat-at4 .ensures i;
-      option = c .nat-at5 .ensures i;
+      step = c .nat-at5 .ensures i;
     }
 
 pub place-at-spec : {M : Type 1} → statement M

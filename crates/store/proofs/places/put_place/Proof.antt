@@ -109,7 +109,7 @@ returns c =
           (back-pos w64 _ _ (c .before .before .before .int3 .ensures) (omega (arith, z .r-fits, y .size-fits)))
           (search needs)
           (back-pos w64 _ _ (c .before .int4 .ensures) (y .parent-fits))
-          (back-pos w64 _ _ (c .int5 .ensures) (y .option-fits)),
+          (back-pos w64 _ _ (c .int5 .ensures) (y .step-fits)),
       put-spare (b .args .store .now) (b .args .k) (b .pre .0) _ _ _ _ _ _,
     )
 

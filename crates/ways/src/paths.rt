@@ -6,13 +6,13 @@ ghost use Prim.Native.Nat.{ℕ, _<_, _≤_};
 ghost use lib.ListN.{length, getD};
 ghost use Rattle.meaning.specs.State.{Hyp};
 ghost use Rattle.meaning.specs.declared.Step.{Step};
-ghost use Rattle.states.specs.Shows.{nobody};
-ghost use Rattle.states.specs.Back.{Chains, Leads, Way};
+ghost use Rattle.ways.specs.Back.{nobody};
+ghost use Rattle.ways.specs.Back.{Chains, Leads, Way};
 
 // How many steps lead to the place k.
 fn depth(store: &[i64], k: usize) -> usize
     requires { ⌜ Leads (now store) k 32 ⌝ }
-    ensures { λ r. ⌜ ((f : ℕ → Step) (m : ℕ) (l : List Hyp) → Chains f m (now (store .entry)) l → k < length l → r ≡ length (getD l k nobody .steps)) ⌝ }
+    ensures { λ r. ⌜ ((l : List Hyp) → Chains (now (store .entry)) l → k < length l → r ≡ length (getD l k nobody .steps)) ⌝ }
 {
     let mut at = k;
     let mut d: usize = 0;
@@ -28,7 +28,7 @@ fn depth(store: &[i64], k: usize) -> usize
 pub fn path(store: &[i64], k: usize, out: &mut [usize]) -> usize
     requires { ⌜ Leads (now store) k 32 ⌝ }
     requires { ⌜ 32 ≤ length (now out) ⌝ }
-    ensures { λ r. ⌜ ((f : ℕ → Step) (m : ℕ) (l : List Hyp) → Chains f m (now (store .entry)) l → k < length l → Way f m (getD l k nobody .steps) (now (out .exit)) r) ⌝ }
+    ensures { λ r. ⌜ ((l : List Hyp) → Chains (now (store .entry)) l → k < length l → Way (getD l k nobody .steps) (now (out .exit)) r) ⌝ }
 {
     let d = depth(store, k);
     let mut at = k;
@@ -36,7 +36,7 @@ pub fn path(store: &[i64], k: usize, out: &mut [usize]) -> usize
     while left > 0 {
         left -= 1;
         let x = places::place_at(store, at);
-        out[left] = x.option;
+        out[left] = x.step;
         at = x.parent;
     }
     d

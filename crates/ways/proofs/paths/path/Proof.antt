@@ -3,17 +3,16 @@ use borrow.Author.Needs.{needs}
 use native.Mathlib.Omega.{arith}
 use mathlib.Core.Path.{_≡_, refl, _∙_}
 use mathlib.Core.List.{List}
-use Prim.Native.Nat.{ℕ, _<_, _≤_}
+use Prim.Native.Nat.{_<_, _≤_}
 use lib.ListN.{length, length-set}
 use Rattle.meaning.specs.State.{Hyp}
-use Rattle.meaning.specs.declared.Step.{Step}
-use Rattle.states.specs.Back.{Chains, Behind}
-use Rattle.states.proofs.Back.{back-starts, back-goes, back-ends}
-use Rattle.states.proofs.paths.path.Statement.{statement}
-use Rattle.states.proofs.paths.path.Tie as tie
+use Rattle.ways.specs.Back.{Chains, Behind}
+use Rattle.ways.proofs.Back.{back-starts, back-goes, back-ends}
+use Rattle.ways.proofs.paths.path.Statement.{statement}
+use Rattle.ways.proofs.paths.path.Tie as tie
 
 abbrev Inv-loop : tie.InvT-loop
-Inv-loop store k out₀ d at₀ left₀ out at left = (left ≤ d) × ((length out ≡ length out₀) × ((f : ℕ → Step) (m : ℕ) (l : List Hyp) → Chains f m store l → k < length l → Behind f m l k d out at left))
+Inv-loop store k out₀ d at₀ left₀ out at left = (left ≤ d) × ((length out ≡ length out₀) × ((l : List Hyp) → Chains store l → k < length l → Behind l k d out at left))
 
 abbrev μ-loop : tie.MeasureT-loop
 μ-loop store k out₀ d at₀ left₀ out at left = left
@@ -22,13 +21,13 @@ abbrev μ-loop : tie.MeasureT-loop
 room : (c : tie.After-place-at Inv-loop μ-loop) → c .before .before .before .depth .result ≤ length (c .before .before .loop .out)
 room c =
     let q = c .before .before .before .before .before .pre .0 in
-    omega (arith, c .before .before .before .depth .ensures (q .step) (q .options) (q .list) (q .chains) (q .inside), q .short, c .before .before .loop .inv .1 .0, c .before .before .before .before .before .pre .1)
+    omega (arith, c .before .before .before .depth .ensures (q .list) (q .chains) (q .inside), q .short, c .before .before .loop .inv .1 .0, c .before .before .before .before .before .pre .1)
 
 depth-requires : tie.Need-depth-requires Inv-loop μ-loop
 depth-requires c κs = c .before .pre .0
 
 loop-holds : tie.Need-loop-holds Inv-loop μ-loop
-loop-holds c = (omega arith, (refl, λ f m l g h. back-starts h (c .depth .ensures f m l g h)))
+loop-holds c = (omega arith, (refl, λ l g h. back-starts h (c .depth .ensures l g h)))
 
 sub-left : tie.Need-sub-left Inv-loop μ-loop
 sub-left c = search needs
@@ -36,7 +35,7 @@ sub-left c = search needs
 place-at-requires : tie.Need-place-at-requires Inv-loop μ-loop
 place-at-requires c κs =
     let q = c .before .before .before .before .pre .0 in
-    let h = c .before .loop .inv .1 .1 (q .step) (q .options) (q .list) (q .chains) (q .inside) in
+    let h = c .before .loop .inv .1 .1 (q .list) (q .chains) (q .inside) in
     omega (arith, h .inside, q .chains .room)
 
 mul-out : tie.Need-mul-out Inv-loop μ-loop
@@ -54,7 +53,7 @@ loop-again c =
       omega arith,
       (
         length-set (p .out) _ _ ∙ p .inv .1 .0,
-        λ f m l g h. back-goes g _ _ (p .out) (p .at) (p .left) (c .place-at .result) (c .before .loop-test .taken) (p .inv .0) (room c) (c .place-at .ensures) (p .inv .1 .1 f m l g h),
+        λ l g h. back-goes g _ _ (p .out) (p .at) (p .left) (c .place-at .result) (c .before .loop-test .taken) (p .inv .0) (room c) (c .place-at .ensures) (p .inv .1 .1 l g h),
       ),
     )
 
@@ -62,7 +61,7 @@ same-length : tie.Need-same-length Inv-loop μ-loop
 same-length c = c .before .loop .inv .1 .0
 
 returns : tie.Need-returns Inv-loop μ-loop
-returns c = λ f m l g h. back-ends (c .loop-test .left) (c .before .before .depth .ensures f m l g h) (c .before .loop .inv .1 .1 f m l g h)
+returns c = λ l g h. back-ends (c .loop-test .left) (c .before .before .depth .ensures l g h) (c .before .loop .inv .1 .1 l g h)
 
 pub path-spec : {M : Type 1} → statement M
 path-spec =
