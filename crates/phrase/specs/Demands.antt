@@ -1,5 +1,5 @@
 -- The three demands as statements, with no proof. proofs/Demanded.antt shows them from the contracts of `decode` and `score` alone, on every input
--- and without any other condition: `decode-demands`, `score-demands`. That every call ends is part of what a contract means.
+-- and without any other condition: `decode-demands`, `same-answer`, `score-demands`. That every call ends is part of what a contract means.
 -- The contracts of the other calls are equations with a definition: they are demand 1 as they stand.
 -- The definitions are those of crate meaning; `negsuc 0` is −1, and the empty type ⊥ says "never".
 use Prim.Native.Nat.{ℕ, _/_, _≤_, _<_}
@@ -76,7 +76,7 @@ module _ (loaded : List ℤ) (direction : List ℕ) (width : ℤ) (steps₀ step
     pub rest-kept : (a : Answer) → result ≡ Done a → (drop (a .steps) steps₁ ≡ drop (a .steps) steps₀) × (drop (a .words) words₁ ≡ drop (a .words) words₀)
     -- ticket 1: "an answer's steps are now determined too"
     pub steps-are : (a : Answer) → result ≡ Done a → take (a .steps) steps₁ ≡ answerSteps (answer book direction width)
-    -- their number is reported; with pruning off it is the number of those that the transitions can reach
+    -- the number of the states entered is reported; with pruning off it is the number of those that the transitions can reach
     pub states-entered : (a : Answer) → result ≡ Done a → a .states ≡ length (entered book direction width)
     pub states-reachable : PruningOff → (a : Answer) → result ≡ Done a → (keys : List Key) → AreReachable book direction keys → a .states ≡ length keys
 

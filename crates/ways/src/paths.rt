@@ -1,13 +1,11 @@
-// The options that led to a state, by the parents' places.
+// The steps that led to a state, by the parents' places.
 use store::places;
 ghost use mathlib.Core.Path.{_≡_};
 ghost use mathlib.Core.List.{List};
 ghost use Prim.Native.Nat.{ℕ, _<_, _≤_};
 ghost use lib.ListN.{length, getD};
 ghost use Rattle.meaning.specs.State.{Hyp};
-ghost use Rattle.meaning.specs.declared.Step.{Step};
-ghost use Rattle.ways.specs.Back.{nobody};
-ghost use Rattle.ways.specs.Back.{Chains, Leads, Way};
+ghost use Rattle.ways.specs.Back.{nobody, Chains, Leads, Way};
 
 // How many steps lead to the place k.
 fn depth(store: &[i64], k: usize) -> usize
@@ -24,7 +22,7 @@ fn depth(store: &[i64], k: usize) -> usize
     d
 }
 
-// Writes the numbers of the options that led to the place k, the first step's first, and answers how many there are.
+// Writes the numbers of the steps that led to the place k, the first step's first, and answers how many there are.
 pub fn path(store: &[i64], k: usize, out: &mut [usize]) -> usize
     requires { ⌜ Leads (now store) k 32 ⌝ }
     requires { ⌜ 32 ≤ length (now out) ⌝ }

@@ -1,4 +1,4 @@
--- The steps are written from the last to the first: each turn writes the option of the place and goes to its parent, whose steps are the ones before.
+-- The steps are written from the last to the first: each turn writes the number of the place's step and goes to its parent, whose steps are the ones before.
 use borrow.Author.Needs.{needs}
 use native.Mathlib.Omega.{arith}
 use mathlib.Core.Path.{_≡_, refl, _∙_}
