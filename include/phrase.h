@@ -4,7 +4,7 @@
  * question whose answer was no (docs/REFUSALS.md). No call keeps a pointer, allocates, or touches a list beyond its length.
  * A list that a call may write (book or direction of a reading, steps, words, store, report) must not overlap another list of the same call;
  * lists that are only read may. A pointer is aligned for its type, and not null even where the length is 0.
- * A decode takes 397,000 bytes of stack, a scoring 133,000, reading or checking a book and the two target calls 116,000, reading a direction
+ * A decode takes 756,000 bytes of stack, a scoring 493,000, reading or checking a book and the two target calls 477,000, reading a direction
  * fewer than 1,000.
  *
  * A loaded book is a list of signed 32-bit numbers. Calls after phrase_read_book are lent just the numbers that it wrote.
@@ -21,7 +21,7 @@
 extern "C" {
 #endif
 
-/* Reads a book's text. Returns how many numbers it wrote to the front of `book`, or minus the refusal, 1 to 7.
+/* Reads a book's text. Returns how many numbers it wrote to the front of `book`, or minus the refusal, 1 to 7 or 20.
  * Places of `book` behind those numbers are as before; after a refusal all of it is. */
 int64_t phrase_read_book(const uint8_t *text, size_t text_len, int32_t *book, size_t book_len);
 
@@ -29,20 +29,20 @@ int64_t phrase_read_book(const uint8_t *text, size_t text_len, int32_t *book, si
  * Places of `direction` behind those words are as before; after a refusal all of it is. */
 int64_t phrase_read_direction(const uint8_t *text, size_t text_len, uint16_t *direction, size_t direction_len);
 
-/* Asks questions 2 to 6 of a loaded book. Returns 0, or the refusal. Changes nothing. */
+/* Asks questions 2 to 6 and 20 of a loaded book. Returns 0, or the refusal. Changes nothing. */
 int32_t phrase_check_book(const int32_t *book, size_t book_len);
 
 /* Where the target words of an entry stand in a loaded book, and how many they are. For a number that is no entry, and for a list that 2 to 6
- * refuse: the list's length, and 0. Change nothing. */
+ * or 20 refuse: the list's length, and 0. Change nothing. */
 int64_t phrase_target_start(const int32_t *book, size_t book_len, size_t entry);
 int64_t phrase_target_count(const int32_t *book, size_t book_len, size_t entry);
 
-/* Scores a proposed list of steps, of any number. Returns 0, or the refusal: 2 to 6, 9, 10, 16 to 19.
+/* Scores a proposed list of steps, of any number. Returns 0, or the refusal: 2 to 6, 20, 9, 10, 16 to 19.
  * report: the score. Changes nothing else. */
 int32_t phrase_score(const int32_t *book, size_t book_len, const uint16_t *direction, size_t direction_len,
                      const uint16_t *steps, size_t steps_len, int64_t *report, size_t report_len);
 
-/* Finds the best derivation. `width` is -1 (pruning off) or the beam's width. Returns 0, or the refusal: 2 to 6, 9 to 15.
+/* Finds the best derivation. `width` is -1 (pruning off) or the beam's width. Returns 0, or the refusal: 2 to 6, 20, 9 to 15.
  * On success the steps stand at the front of `steps`, their target words at the front of `words`, and the places behind them are as before;
  * report: the score, the number of steps, of words, and of states entered.
  * Of derivations with equal scores the first in order wins, compared step by step by first, then last, then entry: the book, the direction and the

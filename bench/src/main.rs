@@ -7,6 +7,7 @@ mod library;
 mod plain_reader;
 
 use second::gen::{self, Rng};
+use std::collections::HashSet;
 use std::time::{Duration, Instant};
 
 /// No search of this benchmark enters more states.
@@ -186,6 +187,45 @@ fn decoding_ties() {
     }
 }
 
+/// Full books with as many D and U lines as allowed: few triples have a T line, and the others back off.
+fn decoding_back_off() {
+    println!("8,192 D and 8,192 U lines more             states   ours ms  theirs ms   ours ns/state  theirs   ratio");
+    let mut rng = Rng::new(4);
+    for (n, d, width) in [
+        (7, 2, -1),
+        (8, 2, -1),
+        (12, 2, -1),
+        (11, 3, -1),
+        (16, 3, 3_000),
+        (16, 3, 4_000),
+    ] {
+        let (full, direction) = gen::large_case(&mut rng, n, d, 8);
+        let book = with_shorter_histories(full, &mut rng);
+        let name = format!("full, {n} words, limit {d}, {}", said(width));
+        decode(&name, &book, &direction, width);
+    }
+}
+
+/// A book of `gen::large_case` with D lines for more than half of the pairs of its target words (2,000 to 2,119), and with U lines for
+/// most of these words, for the start symbol, and for words that it has not.
+fn with_shorter_histories(mut book: Vec<i32>, rng: &mut Rng) -> Vec<i32> {
+    let mut pairs = HashSet::new();
+    while pairs.len() < 8_192 {
+        let word = |rng: &mut Rng| rng.between(2_000, 2_119) as i32;
+        let w = if rng.chance(1, 100) { 0 } else { word(rng) };
+        let y = word(rng);
+        if pairs.insert((w, y)) {
+            let (s, k) = (rng.between(-3_000, -100), rng.between(-1_000, 200));
+            book.extend([5, w, y, s as i32, k as i32]);
+        }
+    }
+    for y in [0].into_iter().chain(2_010..10_201) {
+        let (s, k) = (rng.between(-4_000, -1_000), rng.between(-1_000, 200));
+        book.extend([4, y, s as i32, k as i32]);
+    }
+    book
+}
+
 fn said(width: i64) -> String {
     match width {
         -1 => "pruning off".into(),
@@ -240,6 +280,21 @@ fn text_of(rng: &mut Rng, phrases: usize) -> String {
     text
 }
 
+/// The same with as many lines of each kind as allowed; no two lines are the same.
+fn text_of_all(rng: &mut Rng) -> String {
+    let mut text = text_of(rng, 4_096);
+    for k in 1..=8_192 {
+        let (s, weight) = (rng.between(-9_999, 0), rng.between(-2_000, 2_000));
+        text += &format!("U,{},{s},{weight}\n", 7 * k);
+    }
+    for k in 1..=8_192 {
+        let (s, weight) = (rng.between(-9_999, 0), rng.between(-2_000, 2_000));
+        let w = rng.between(0, 65_535);
+        text += &format!("D,{w},{k},{s},{weight}\n");
+    }
+    text
+}
+
 /// A text, read by both: a good book's numbers, or the refusal of one with more lines than allowed (5).
 fn read(name: &str, text: &str) {
     let mut book = vec![0; text.len()];
@@ -266,6 +321,16 @@ fn read(name: &str, text: &str) {
     );
 }
 
+/// The questions of a good book's text, asked of it as a loaded list: by the library alone.
+fn check(text: &str) {
+    let book = plain_reader::read(text).expect("a good book");
+    let (a, _) = side_by_side(200, || assert_eq!(library::check_book(&book), 0), || ());
+    println!(
+        "questions 2 to 6 of that book, loaded:   {:.3} ms",
+        a.as_secs_f64() * 1e3
+    );
+}
+
 fn reading() {
     println!("reading                                     bytes   ours ms  theirs ms   ours ns/byte  theirs   ratio");
     let mut rng = Rng::new(2);
@@ -273,24 +338,24 @@ fn reading() {
         let text = text_of(&mut rng, phrases);
         read(&format!("{phrases} P and {} T lines", 2 * phrases), &text);
         if phrases == 4_096 {
-            let book = plain_reader::read(&text).expect("a good book");
-            let (a, _) = side_by_side(200, || assert_eq!(library::check_book(&book), 0), || ());
-            println!(
-                "questions 2 to 6 of that book, loaded:   {:.3} ms",
-                a.as_secs_f64() * 1e3
-            );
+            check(&text);
         }
     }
     read(
         "6500 P and 13000 T lines, refused",
         &text_of(&mut rng, 6_500),
     );
+    let text = text_of_all(&mut rng);
+    read("4096 P, 8192 of each of T, U and D", &text);
+    check(&text);
 }
 
 fn main() {
     decoding();
     println!();
     decoding_ties();
+    println!();
+    decoding_back_off();
     println!();
     reading();
 }

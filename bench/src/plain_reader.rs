@@ -1,4 +1,4 @@
-//! A reader as one would write it in a hurry, with `split`, `parse` and a HashSet: what reading is measured against.
+//! A reader as one would write it in a hurry, with `split`, `parse` and HashSets: what reading is measured against.
 
 use std::collections::HashSet;
 
@@ -38,16 +38,55 @@ fn line(kind: &str, numbers: &[i32]) -> Option<()> {
             in_range(*w, 0, 65_535)?;
             in_range(*y, 1, 65_535)?;
         }
+        "U" => {
+            let [y, s] = front else { return None };
+            in_range(*y, 0, 65_535)?;
+            is_score(*s)?;
+        }
+        "D" => {
+            let [w, y, s] = front else { return None };
+            in_range(*w, 0, 65_535)?;
+            in_range(*y, 1, 65_535)?;
+            is_score(*s)?;
+        }
         _ => return None,
     }
     Some(())
 }
 
+/// The words of the T, U and D lines so far, and how many P lines there were.
+#[derive(Default)]
+struct Seen {
+    phrases: usize,
+    triples: HashSet<(i32, i32, i32)>,
+    words: HashSet<i32>,
+    pairs: HashSet<(i32, i32)>,
+}
+
+impl Seen {
+    /// The kind of a line in a loaded book, if its words are new.
+    fn add(&mut self, kind: &str, row: &[i32]) -> Option<i32> {
+        match kind {
+            "B" => Some(1),
+            "P" => {
+                self.phrases += 1;
+                Some(2)
+            }
+            "T" => self.triples.insert((row[0], row[1], row[2])).then_some(3),
+            "U" => self.words.insert(row[0]).then_some(4),
+            _ => self.pairs.insert((row[0], row[1])).then_some(5),
+        }
+    }
+    fn few_enough(&self) -> bool {
+        let scores = [self.triples.len(), self.words.len(), self.pairs.len()];
+        self.phrases <= 4_096 && scores.iter().all(|&n| n <= 8_192)
+    }
+}
+
 /// The loaded book, or nothing where something is wrong.
 pub fn read(text: &str) -> Option<Vec<i32>> {
     let mut book = Vec::new();
-    let mut triples = HashSet::new();
-    let (mut phrases, mut row) = (0, Vec::new());
+    let (mut seen, mut row) = (Seen::default(), Vec::new());
     for (k, one) in text.lines().enumerate() {
         let mut fields = one.split(',');
         let kind = fields.next()?;
@@ -59,16 +98,8 @@ pub fn read(text: &str) -> Option<Vec<i32>> {
         if (kind == "B") != (k == 0) {
             return None;
         }
-        phrases += (kind == "P") as usize;
-        if kind == "T" && !triples.insert((row[0], row[1], row[2])) {
-            return None;
-        }
-        book.push(match kind {
-            "B" => 1,
-            "P" => 2,
-            _ => 3,
-        });
+        book.push(seen.add(kind, &row)?);
         book.extend_from_slice(&row);
     }
-    (phrases <= 4_096 && triples.len() <= 8_192 && !book.is_empty()).then_some(book)
+    (seen.few_enough() && !book.is_empty()).then_some(book)
 }

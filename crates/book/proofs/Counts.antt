@@ -2,25 +2,40 @@
 use Prim.Native.Nat.{ℕ, zero, suc, _+_, _-_, _≤_, _<_}
 use native.Mathlib.Omega.{arith}
 use mathlib.Core.Path.{_≡_, refl, sym, _∙_, ap}
-use mathlib.Core.Bool.{Bool, true, false, not, _&&_, and-assoc}
+use mathlib.Core.Bool.{Bool, true, false, not, cond, _&&_, and-assoc}
 use mathlib.Core.List.{List, [], _∷_, map}
 use borrow.Author.Tests.{le-leb, lt-leb, eqb-true, eqb-false, eq-eqb, ne-eqb}
 use lib.Dec.{eqb, leb}
-use lib.IntN.{ℤ}
+use lib.IntN.{ℤ, pos}
 use lib.ListN.{length, getD, drop, replicate, length-set, length-drop}
 use lib.Seq.{getD-set-same, getD-set-other}
 use Rattle.laws.specs.Bits.{one}
+use Rattle.laws.specs.Integers.{eqℤ}
 use Rattle.laws.specs.Lists.{all, any, count, numbersFrom}
 use Rattle.laws.proofs.Lists.{count-cons, count-none, drop-next, numbers-first}
+use Rattle.laws.proofs.Order.{yes-≡}
 use Rattle.laws.proofs.Tests.{same-test, by-test}
 use Rattle.meaning.specs.Questions.{_unless_, _orelse_}
-use Rattle.meaning.specs.Book.{Form, Kind, kinds, isKind, isB, isWhole, areFew, isOneBFirst, isInRange, isNotTooLong, isNoTripleTwice, linesRefusal}
+use Rattle.meaning.specs.Book.{Form, Kind, kinds, isKind, isB, isT, isU, isD, isWhole, areFew, isOneBFirst, isInRange, isNotTooLong, isNoTripleTwice, isNoShorterTwice, linesRefusal, numberAt, orderOf, isGram}
 use Rattle.lines.specs.Kinds.{kindOf, mostOf}
 use Rattle.lines.proofs.Lines.{row-known, kind-row}
 use Rattle.book.specs.declared.survey.Survey.{Survey}
-use Rattle.book.specs.Survey.{fresh, withLine, surveyFrom, tallySize, noTally, withKind, tallyFrom, isFew, areAllFew, surveyRefusal, Few}
+use Rattle.book.specs.Survey.{fresh, withLine, surveyFrom, tallySize, noTally, withKind, tallyFrom, gramCount, isFew, areAllFew, surveyRefusal, Few}
 
 -- ---- the tally
+
+-- a line lists an n-gram where it is a T, a U or a D line
+gram-one : (line : List ℤ) → one (isGram line) ≡ one (isT line) + (one (isU line) + one (isD line))
+unfolding isGram orderOf
+gram-one line = of (numberAt line 0)
+  where
+    of : (z : ℤ) → one (leb 1 (cond (eqℤ z (pos 1)) 0 (cond (eqℤ z (pos 2)) 0 (cond (eqℤ z (pos 3)) 3 (cond (eqℤ z (pos 4)) 1 (cond (eqℤ z (pos 5)) 2 0)))))) ≡ one (eqℤ z (pos 3)) + (one (eqℤ z (pos 4)) + one (eqℤ z (pos 5)))
+    of z =
+        by-test (eqℤ z (pos 1)) (λ t. rw (yes-≡ z (pos 1) t))
+        (λ b. by-test (eqℤ z (pos 2)) (λ t. rw (yes-≡ z (pos 2) t))
+        (λ p. by-test (eqℤ z (pos 3)) (λ t. rw (yes-≡ z (pos 3) t))
+        (λ t. by-test (eqℤ z (pos 4)) (λ t. rw (yes-≡ z (pos 4) t))
+        (λ u. by-test (eqℤ z (pos 5)) (λ t. rw (yes-≡ z (pos 5) t)) (λ d. rw (b, p, t, u, d))))))
 
 -- each line adds one to the count of its kind
 module _ (tally : List ℕ) (line : List ℤ) (long : length tally ≡ tallySize) where
@@ -49,6 +64,11 @@ module _ (tally : List ℕ) (line : List ℤ) (long : length tally ≡ tallySize
       (λ t. let e = eqb-true (kindOf line) k t in let h = counted-here in omega (arith, rw e at h))
       (λ f. let h = counted-else k (eqb-false (kindOf line) k f) in omega arith)
 
+  -- the lines of n-grams
+  pub gram-counted : gramCount (withKind tally line) ≡ gramCount tally + one (isGram line)
+  gram-counted =
+      omega (arith, kind-counted 3 (omega arith) (omega arith), kind-counted 4 (omega arith) (omega arith), kind-counted 5 (omega arith) (omega arith), gram-one line)
+
 tally-from : (k : ℕ) → 1 ≤ k → k ≤ length kinds → (tally : List ℕ) (lines : List (List ℤ)) → length tally ≡ tallySize → getD (tallyFrom tally lines) k 0 ≡ getD tally k 0 + count (isKind k) lines
 unfolding tallyFrom
 tally-from k a b tally [] l = omega arith
@@ -66,6 +86,14 @@ tally-none = by tallySize
 -- the count of each row's lines
 pub tally-is : (k : ℕ) → 1 ≤ k → k ≤ length kinds → (lines : List (List ℤ)) → getD (tallyFrom noTally lines) k 0 ≡ count (isKind k) lines
 tally-is k a b lines = omega (arith, tally-from k a b noTally lines refl, tally-none k)
+
+pub grams-counted : (lines : List (List ℤ)) → gramCount (tallyFrom noTally lines) ≡ count isGram lines
+grams-counted lines =
+    omega (arith, tally-is 3 (omega arith) (omega arith) lines, tally-is 4 (omega arith) (omega arith) lines, tally-is 5 (omega arith) (omega arith) lines, by lines)
+  where
+    by : (lines : List (List ℤ)) → count isGram lines ≡ count isT lines + (count isU lines + count isD lines)
+    by [] = refl
+    by (line ∷ lines) = omega (arith, count-cons isGram line lines, count-cons isT line lines, count-cons isU line lines, count-cons isD line lines, gram-one line, by lines)
 
 -- ---- the ranges
 
@@ -122,12 +150,16 @@ survey-few : (lines : List (List ℤ)) → areAllFew (tallyFrom noTally lines) �
 unfolding isNotTooLong
 survey-few lines = few-rows (0 ∷ map (λ row. row .most) kinds) (tallyFrom noTally lines) lines 2 (drop 1 kinds) refl (λ j a b. tally-is j (omega arith) (omega arith) lines)
 
-pub survey-refusal : (form : Form) (lines : List (List ℤ)) → all (isWhole form) lines ≡ true → linesRefusal form lines ≡ surveyRefusal (surveyFrom fresh lines) (tallyFrom noTally lines) orelse 6 unless isNoTripleTwice lines
+-- questions 6 and 20
+abbrev pub repeatsRefusal : List (List ℤ) → ℕ
+repeatsRefusal lines = 6 unless isNoTripleTwice lines orelse 20 unless isNoShorterTwice lines
+
+pub survey-refusal : (form : Form) (lines : List (List ℤ)) → all (isWhole form) lines ≡ true → linesRefusal form lines ≡ surveyRefusal (surveyFrom fresh lines) (tallyFrom noTally lines) orelse repeatsRefusal lines
 unfolding linesRefusal surveyRefusal
 survey-refusal form lines w =
     rw (w, survey-one lines, survey-ranged fresh lines, survey-few lines)
-    (sym (orelse-assoc (3 unless isOneBFirst lines) (4 unless all isInRange lines orelse 5 unless isNotTooLong lines) (6 unless isNoTripleTwice lines)
-    ∙ ap (λ (m : ℕ). 3 unless isOneBFirst lines orelse m) (orelse-assoc (4 unless all isInRange lines) (5 unless isNotTooLong lines) (6 unless isNoTripleTwice lines))))
+    (sym (orelse-assoc (3 unless isOneBFirst lines) (4 unless all isInRange lines orelse 5 unless isNotTooLong lines) (repeatsRefusal lines)
+    ∙ ap (λ (m : ℕ). 3 unless isOneBFirst lines orelse m) (orelse-assoc (4 unless all isInRange lines) (5 unless isNotTooLong lines) (repeatsRefusal lines))))
 
 -- a line that is not whole
 pub broken-refusal : (form : Form) (lines : List (List ℤ)) → all (isWhole form) lines ≡ false → linesRefusal form lines ≡ 2

@@ -1,5 +1,5 @@
 pub mod Counts
-pub mod Triples
+pub mod Gathered
 pub mod Cuts
 pub mod Walk
 pub mod Places

@@ -5,15 +5,15 @@ use mathlib.Core.List.{List, [], _∷_}
 use lib.Dec.{ltb}
 use lib.IntN.{ℤ}
 use Rattle.laws.specs.Bits.{one}
-use Rattle.meaning.specs.Book.{isT}
+use Rattle.meaning.specs.Book.{isGram}
 use Rattle.ngrams.specs.Parts.{recordsMost}
 use Rattle.ngrams.specs.Grams.{putRecord}
 
--- one line more, after `ts` T lines: what passes the number that question 5 allows is not noted
+-- one line more, after n lines of n-grams: what passes the number that question 5 allows is not noted
 unfoldable pub withGram : List ℕ → ℕ → List ℤ → List ℕ
-withGram index ts line = cond (isT line && ltb ts recordsMost) (putRecord index ts line) index
+withGram index n line = cond (isGram line && ltb n recordsMost) (putRecord index n line) index
 
 -- the lines from the first on
 unfoldable pub gramsFrom : List ℕ → ℕ → List (List ℤ) → List ℕ
-gramsFrom index ts [] = index
-gramsFrom index ts (line ∷ lines) = gramsFrom (withGram index ts line) (ts + one (isT line)) lines
+gramsFrom index n [] = index
+gramsFrom index n (line ∷ lines) = gramsFrom (withGram index n line) (n + one (isGram line)) lines

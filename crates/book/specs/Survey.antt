@@ -50,6 +50,13 @@ unfoldable pub tallyFrom : List ℕ → List (List ℤ) → List ℕ
 tallyFrom tally [] = tally
 tallyFrom tally (line ∷ lines) = tallyFrom (withKind tally line) lines
 
+-- how many list a pair or a word, U and D lines, and how many an n-gram
+abbrev pub shorterCount : List ℕ → ℕ
+shorterCount tally = getD tally 4 0 + getD tally 5 0
+
+abbrev pub gramCount : List ℕ → ℕ
+gramCount tally = getD tally 3 0 + shorterCount tally
+
 -- there are no more of kind k than its row allows
 abbrev pub isFew : List ℕ → ℕ → Bool
 isFew tally k = leb (getD tally k 0) (mostOf k)

@@ -36,7 +36,7 @@ pub fn is_entry_at(book: &[i32], at: usize) -> bool
     lines::is_kind(&book[at..], 2)
 }
 
-// What is known of all lines of a loaded list; `index` gets the records of its T lines, and the tally, all zero before, how many
+// What is known of all lines of a loaded list; `index` gets the records of its n-grams, and the tally, all zero before, how many
 // lines there are of each kind. Where a line is not whole, what the two hold afterwards is not said.
 pub fn survey_loaded(book: &[i32], index: &mut [u16], tally: &mut [usize]) -> Surveyed
     requires { ⌜ recordsEnd ≤ length (now index) ⌝ }

@@ -3,10 +3,10 @@
 // for each row of the table of kinds and, as number 0, one for what is of no kind.
 ghost use mathlib.Core.Path.{_≡_};
 ghost use mathlib.Core.Bool.{_&&_, cond};
-ghost use Prim.Native.Nat.{ℕ, _≤_};
+ghost use Prim.Native.Nat.{ℕ, _^_, _≤_, _<_};
 ghost use lib.Dec.{eqb};
 ghost use lib.ListN.{length, getD};
-ghost use Rattle.book.specs.Survey.{fresh, withLine, tallySize, withKind, areAllFew, linesMost, surveyRefusal};
+ghost use Rattle.book.specs.Survey.{fresh, withLine, tallySize, withKind, shorterCount, gramCount, areAllFew, linesMost, surveyRefusal};
 
 // How long the tally is.
 pub const TALLY_SIZE: usize = lines::KINDS + 1;
@@ -66,6 +66,24 @@ pub fn count_line(tally: &mut [usize], line: &[i32])
 {
     let k = lines::kind_of(line);
     tally[k] += 1;
+}
+
+// How many of the lines list a pair or a word: U and D lines.
+pub fn shorter_count(tally: &[usize]) -> usize
+    requires { ⌜ length (now tally) ≡ tallySize ⌝ }
+    requires { ⌜ shorterCount (now tally) < 2 ^ 64 ⌝ }
+    ensures { λ r. ⌜ r ≡ shorterCount (now (tally .entry)) ⌝ }
+{
+    tally[4] + tally[5]
+}
+
+// How many list an n-gram: those, and T lines.
+pub fn gram_count(tally: &[usize]) -> usize
+    requires { ⌜ length (now tally) ≡ tallySize ⌝ }
+    requires { ⌜ gramCount (now tally) < 2 ^ 64 ⌝ }
+    ensures { λ r. ⌜ r ≡ gramCount (now (tally .entry)) ⌝ }
+{
+    tally[3] + shorter_count(tally)
 }
 
 // Question 5: no more of each kind from the second row on than the row allows.

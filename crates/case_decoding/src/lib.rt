@@ -8,7 +8,7 @@ ghost use Prim.Native.Nat.{_≤_};
 
 // 5: the book, the direction and the steps.
 pub fn score(text: &[u8], at: usize) {
-    let mut book = [0i32; 66000];
+    let mut book = [0i32; 140000];
     let mut direction = [0u16; 128];
     let row = line::book(text, at, &mut book);
     let n = row.count;
@@ -77,7 +77,7 @@ fn decode_with(book: &[i32], direction: &[u16], wish: Wish)
 
 // 6: the book, the direction, and the wish.
 pub fn decode(text: &[u8], at: usize) {
-    let mut book = [0i32; 66000];
+    let mut book = [0i32; 140000];
     let mut direction = [0u16; 128];
     let row = line::book(text, at, &mut book);
     let n = row.count;

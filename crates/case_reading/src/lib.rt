@@ -41,7 +41,7 @@ pub fn read_direction(text: &[u8], at: usize) {
 
 // 3: the book.
 pub fn check_book(text: &[u8], at: usize) {
-    let mut book = [0i32; 66000];
+    let mut book = [0i32; 140000];
     let row = line::book(text, at, &mut book);
     let n = row.count;
     reply::checked(check::check_book(&book[..n]));
@@ -49,7 +49,7 @@ pub fn check_book(text: &[u8], at: usize) {
 
 // 4: the book and the entry.
 pub fn target_words(text: &[u8], at: usize) {
-    let mut book = [0i32; 66000];
+    let mut book = [0i32; 140000];
     let row = line::book(text, at, &mut book);
     let n = row.count;
     let entry = line::take_number(text, row.end);

@@ -1,16 +1,15 @@
 -- How the lists and numbers of the code stand for the book: the language model, and an entry by its places.
 use Prim.Native.Nat.{ℕ, _+_, _%_, _≤_, _<_}
 use mathlib.Core.Path.{_≡_}
-use mathlib.Core.Bool.{true}
 use mathlib.Core.List.{List, [], _∷_}
 use lib.IntN.{ℤ, pos, _+ℤ_}
 use lib.ListN.{length, getD}
 use Rattle.laws.specs.Integers.{Within, natOf}
-use Rattle.laws.specs.Lists.{noneTwice}
-use Rattle.meaning.specs.Bounds.{wordMost, wordSpan, scoreMost}
+use Rattle.meaning.specs.Bounds.{wordMost, wordSpan, scoreMost, tripleBound}
 use Rattle.meaning.specs.Book.{Entry}
-use Rattle.meaning.specs.Derivation.{listedScore}
-use Rattle.ngrams.specs.Grams.{keysIn, triplesIn, sameKey, Indexed}
+use Rattle.meaning.specs.Derivation.{backedOff}
+use Rattle.ngrams.specs.Grams.{gramsIn}
+use Rattle.language.specs.Language.{IsModel}
 use Rattle.derivation.specs.declared.Setup.{Setup}
 use Rattle.derivation.specs.declared.Row.{Row}
 use Rattle.derivation.specs.declared.Phrase.{Phrase}
@@ -19,13 +18,12 @@ use Rattle.derivation.specs.declared.Phrase.{Phrase}
 
 -- the score of the triple v, w, y by the list
 unfoldable pub modelScore : List ℕ → Setup → ℕ → ℕ → ℕ → ℤ
-modelScore index t v w y = listedScore v w y (t .unseen) (triplesIn index (t .triples))
+modelScore index t v w y = backedOff (t .model .unseen) (gramsIn index (t .model .count)) v w y
 
--- the list has an index of triples, no two alike, with scores in their range
+-- the list has the n-grams, and no triple's score passes its bound
 pub record Model (index : List ℕ) (t : Setup) : Type 0 where
-  pub indexed : Indexed index (t .triples)
-  pub different : noneTwice sameKey (keysIn index (t .triples)) ≡ true
-  pub scores-within : (v w y : ℕ) → Within scoreMost (modelScore index t v w y)
+  pub is-model : IsModel index (t .model)
+  pub scores-within : (v w y : ℕ) → Within tripleBound (modelScore index t v w y)
 
 -- no words yet, after two words
 abbrev pub emptyRow : ℕ → ℕ → Row

@@ -20,17 +20,19 @@ jumpFrom r first = (suc r - first) + (first - suc r)
 unfoldable pub gainBy : Setup → Phrase → ℕ → Row → ℤ
 gainBy t p far row = p .g +ℤ t .eta *ℤ pos far +ℤ row .score
 
--- the entry's words are added, the positions covered, and the gain added
+-- the words of a row are added, the positions covered, and the gain added
+abbrev pub stateBy : Setup → Phrase → Row → ℕ → ℕ → State → State
+stateBy t p row first last s = record {
+  word1 = row .word1;
+  word2 = row .word2;
+  covered = s .covered + maskOf first last;
+  r = last;
+  score = s .score +ℤ gainBy t p (jumpFrom (s .r) first) row;
+}
+
+-- the row is that of the entry's words
 unfoldable pub nextState : List ℕ → Setup → Phrase → Entry → ℕ → ℕ → State → State
-nextState index t p e first last s =
-    let row = withWords index t (emptyRow (s .word1) (s .word2)) (e .target) in
-    record {
-      word1 = row .word1;
-      word2 = row .word2;
-      covered = s .covered + maskOf first last;
-      r = last;
-      score = s .score +ℤ gainBy t p (jumpFrom (s .r) first) row;
-    }
+nextState index t p e first last s = stateBy t p (withWords index t (emptyRow (s .word1) (s .word2)) (e .target)) first last s
 
 -- the positions lie in the direction, there is room for them in the number, the jump is in reach and the numbers are small
 pub record CanNext (t : Setup) (first last : ℕ) (s : State) : Type 0 where

@@ -1,17 +1,18 @@
 // Steps on plain numbers: what an entry's words score, where it fits, what it adds to a score, and the state that it leads to.
+use language::LanguageModel;
+
 pub mod model;
 pub mod places;
 pub mod step;
 
 // The numbers of a book and a direction that every step needs: how many words the direction has, the reordering limit, the
-// penalty, the score of an unseen triple, how many entries and how many triples there are.
+// penalty, how many entries there are, and the language model.
 pub struct Setup {
     pub n: usize,
     pub limit: usize,
     pub eta: i64,
-    pub unseen: i64,
     pub phrases: usize,
-    pub triples: usize,
+    pub model: LanguageModel,
 }
 
 // A row of target words: the sum of the scores of the triples that they end, and the last two words.

@@ -2,7 +2,6 @@
 use crate::Phrase;
 use crate::Row;
 use crate::Setup;
-use ngrams::Key;
 ghost use mathlib.Core.Path.{_≡_};
 ghost use Prim.Native.Nat.{_+_, _<_};
 ghost use lib.ListN.{length};
@@ -18,12 +17,13 @@ fn add_word(index: &[u16], t: Setup, s: Row, y: u16) -> Row
     ensures { λ r. ⌜ r ≡ withWord (now (index .entry)) t s y ⌝ }
 {
     let old = s.score;
-    let key = Key {
-        v: s.word1 as usize,
-        w: s.word2 as usize,
-        y: y as usize,
-    };
-    let gain = ngrams::triple_score(index, t.triples, t.unseen, key);
+    let gain = language::triple_score(
+        index,
+        t.model,
+        s.word1 as usize,
+        s.word2 as usize,
+        y as usize,
+    );
     Row {
         score: old + gain,
         word1: s.word2,

@@ -2,16 +2,13 @@
 use crate::Phrase;
 use crate::Row;
 use crate::Setup;
-use crate::model;
 use meaning::State;
 ghost use mathlib.Core.Path.{_≡_};
 ghost use Prim.Native.Nat.{_+_, _*_, _^_, _≤_, _<_};
 ghost use Rattle.laws.specs.Integers.{Within};
 ghost use Rattle.meaning.specs.State.{gainBound};
 ghost use Rattle.meaning.specs.Bounds.{scoreMost, penaltyMost, wordsBound};
-ghost use Rattle.meaning.specs.Book.{Entry};
-ghost use Rattle.derivation.specs.Model.{Model, PhraseOf, Phrased};
-ghost use Rattle.derivation.specs.Next.{jumpFrom, gainBy, nextState, CanNext};
+ghost use Rattle.derivation.specs.Next.{jumpFrom, gainBy, stateBy, CanNext};
 
 // |r + 1 − first|
 pub fn jump(r: usize, first: usize) -> usize
@@ -37,22 +34,12 @@ fn gain(t: Setup, p: Phrase, far: usize, row: Row) -> i64
     g + eta * far as i64 + words
 }
 
-// The state after the entry's step over the positions first to last, which are free.
-pub fn next_state(
-    book: &[i32],
-    index: &[u16],
-    t: Setup,
-    p: Phrase,
-    first: usize,
-    last: usize,
-    s: State,
-) -> State
-    requires { ⌜ Model (now index) t ⌝ }
-    requires { ⌜ Phrased (now book) p ⌝ }
+// The state after the entry's step over the positions first to last, which are free; its target words make the row.
+pub fn next_state(t: Setup, p: Phrase, row: Row, first: usize, last: usize, s: State) -> State
+    requires { ⌜ Within scoreMost (p .g) × Within wordsBound (row .score) ⌝ }
     requires { ⌜ CanNext t first last s ⌝ }
-    ensures { λ r. ⌜ ((e : Entry) → PhraseOf (now (book .entry)) e p → r ≡ nextState (now (index .entry)) t p e first last s) ⌝ }
+    ensures { λ r. ⌜ r ≡ stateBy t p row first last s ⌝ }
 {
-    let row = model::row_of(book, index, t, p, s.word1, s.word2);
     let more = gain(t, p, jump(s.r as usize, first), row);
     let old = s.score;
     State {

@@ -50,7 +50,8 @@ fn next_place(book: &[i32], index: &[u16], t: Setup, p: Phrase, turn: Turn) -> P
     let spot = turn.spot;
     let x = spot.source.place;
     let last = spot.first + p.long - 1;
-    let state = derivation::step::next_state(book, index, t, p, spot.first, last, x.state);
+    let row = derivation::model::row_of(book, index, t, p, x.state.word1, x.state.word2);
+    let state = derivation::step::next_state(t, p, row, spot.first, last, x.state);
     Place {
         state,
         size: x.size + p.long,

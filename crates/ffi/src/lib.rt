@@ -52,7 +52,7 @@ pub extern "C" fn phrase_read_direction(text: &[u8], direction: &mut [u16]) -> i
     count_or_refusal(reply)
 }
 
-// Asks questions 2 to 6 of a loaded book: 0, or the refusal.
+// Asks questions 2 to 6 and 20 of a loaded book: 0, or the refusal.
 #[no_mangle]
 pub extern "C" fn phrase_check_book(book: &[i32]) -> i32
     ensures { λ r. ⌜ r ≡ pos (bookRefusal (now (book .entry))) ⌝ }

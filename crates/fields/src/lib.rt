@@ -161,7 +161,7 @@ fn read_number(text: &[u8], at: usize) -> Piece
     rest_of_number(text, false, b, at + 1)
 }
 
-// The kind of the line that a letter begins: B, P, T are 1, 2, 3, and another byte is 0.
+// The kind of the line that a letter begins: B, P, T, U, D are 1 to 5, and another byte is 0.
 fn kind_of(b: u8) -> i32
     ensures { λ r. ⌜ r ≡ letterKind b ⌝ }
 {
@@ -173,6 +173,12 @@ fn kind_of(b: u8) -> i32
     }
     if b == 84 {
         return 3;
+    }
+    if b == 85 {
+        return 4;
+    }
+    if b == 68 {
+        return 5;
     }
     0
 }

@@ -2,7 +2,7 @@
 use Prim.Native.Nat.{ℕ, _+_, _-_, _≤_, _<_}
 use native.Mathlib.Omega.{arith}
 use mathlib.Core.Path.{_≡_, refl, sym, _∙_}
-use mathlib.Core.Bool.{true, false, cond}
+use mathlib.Core.Bool.{true, false, cond, _&&_}
 use mathlib.Core.List.{List, [], _∷_, dropLast}
 use borrow.Author.Tests.{leb-true, leb-false, le-leb, lt-leb, ne-eqb}
 use lib.Dec.{eqb, leb}
@@ -13,8 +13,9 @@ use Rattle.laws.specs.Integers.{eqℤ, natOf}
 use Rattle.laws.specs.Lists.{all}
 use Rattle.laws.proofs.Tests.{both, by-test}
 use Rattle.laws.proofs.Linear.{signed}
+use Rattle.laws.proofs.Order.{yes-≡}
 use Rattle.meaning.specs.Questions.{withinℤ}
-use Rattle.meaning.specs.Book.{kinds, isKind, Form, InText, numberAt, naturalAt, isB, isP, isT, isPhraseLength, phraseSize, sizeOf, isWhole, isScore, isPhraseWord, isHistoryWord, isLastWord, rangesB, rangesP, rangesT, isInRange}
+use Rattle.meaning.specs.Book.{kinds, isKind, Form, InText, numberAt, naturalAt, isB, isP, isT, isU, isD, isPhraseLength, phraseSize, sizeOf, isWhole, isScore, isPhraseWord, isHistoryWord, isLastWord, isLoneWord, isWeight, rangesB, rangesP, rangesT, rangesU, rangesD, isInRange, orderOf}
 use Rattle.lines.specs.Kinds.{kindOf}
 
 -- ---- the kind
@@ -49,6 +50,23 @@ module _ (line : List ℤ) where
       by (pos n) = by-test (leb n (length kinds)) (λ t. rw t) (λ f. let far = leb-false n (length kinds) f in rw f (ne-eqb n k (omega arith) ∙ sym (ne-eqb 0 k (omega arith))))
       by (negsuc n) = sym (ne-eqb 0 k (omega arith))
 
+  -- the words of its n-gram are told by its kind
+  pub order-t : isT line ≡ true → 3 ≡ orderOf line
+  unfolding orderOf
+  order-t h = let k : numberAt line 0 ≡ pos 3 = yes-≡ (numberAt line 0) (pos 3) h in rw k
+
+  pub order-d : isD line ≡ true → 2 ≡ orderOf line
+  unfolding orderOf
+  order-d h = let k : numberAt line 0 ≡ pos 5 = yes-≡ (numberAt line 0) (pos 5) h in rw k
+
+  pub order-u : isU line ≡ true → 1 ≡ orderOf line
+  unfolding orderOf
+  order-u h = let k : numberAt line 0 ≡ pos 4 = yes-≡ (numberAt line 0) (pos 4) h in rw k
+
+  pub order-none : isT line ≡ false → isD line ≡ false → isU line ≡ false → 0 ≡ orderOf line
+  unfolding orderOf
+  order-none t d u = by-test (isB line) (λ b. rw b) (λ b. by-test (isP line) (λ p. rw (b, p)) (λ p. rw (b, p, t, u, d)))
+
 -- ---- the size
 
 pub length-to : (z : ℤ) → isPhraseLength z ≡ true → natOf z ≤ 8
@@ -77,9 +95,17 @@ module _ (line : List ℤ) where
   unfolding sizeOf
   size-t form h k l = rw (h, k, l)
 
-  pub size-none : (form : Form) → isB line ≡ false → isP line ≡ false → isT line ≡ false → 0 ≡ sizeOf form line
+  pub size-u : (form : Form) → isB line ≡ false → isP line ≡ false → isT line ≡ false → isU line ≡ true → 4 ≡ sizeOf form line
   unfolding sizeOf
-  size-none form h k l = rw (h, k, l)
+  size-u form h k l m = rw (h, k, l, m)
+
+  pub size-d : (form : Form) → isB line ≡ false → isP line ≡ false → isT line ≡ false → isU line ≡ false → isD line ≡ true → 5 ≡ sizeOf form line
+  unfolding sizeOf
+  size-d form h k l m n = rw (h, k, l, m, n)
+
+  pub size-none : (form : Form) → isB line ≡ false → isP line ≡ false → isT line ≡ false → isU line ≡ false → isD line ≡ false → 0 ≡ sizeOf form line
+  unfolding sizeOf
+  size-none form h k l m n = rw (h, k, l, m, n)
 
   pub range-b : isB line ≡ true → rangesB line ≡ isInRange line
   unfolding isInRange
@@ -93,9 +119,17 @@ module _ (line : List ℤ) where
   unfolding isInRange
   range-t h k l = rw (h, k, l)
 
-  pub range-none : isB line ≡ false → isP line ≡ false → isT line ≡ false → false ≡ isInRange line
+  pub range-u : isB line ≡ false → isP line ≡ false → isT line ≡ false → isU line ≡ true → rangesU line ≡ isInRange line
   unfolding isInRange
-  range-none h k l = rw (h, k, l)
+  range-u h k l m = rw (h, k, l, m)
+
+  pub range-d : isB line ≡ false → isP line ≡ false → isT line ≡ false → isU line ≡ false → isD line ≡ true → rangesD line ≡ isInRange line
+  unfolding isInRange
+  range-d h k l m n = rw (h, k, l, m, n)
+
+  pub range-none : isB line ≡ false → isP line ≡ false → isT line ≡ false → isU line ≡ false → isD line ≡ false → false ≡ isInRange line
+  unfolding isInRange
+  range-none h k l m n = rw (h, k, l, m, n)
 
 pub whole-empty : (line : List ℤ) → length line ≡ 0 → false ≡ isWhole InText line
 unfolding isWhole
@@ -136,3 +170,25 @@ module _ (line : List ℤ) where
 
   pub t-score : isHistoryWord (numberAt line 1) ≡ true → isHistoryWord (numberAt line 2) ≡ true → isLastWord (numberAt line 3) ≡ true → isScore (numberAt line 4) ≡ rangesT line
   t-score h k l = rw (h, k, l)
+
+  pub u-word : isLoneWord (numberAt line 1) ≡ false → false ≡ rangesU line
+  u-word h = rw h
+
+  pub u-score : isLoneWord (numberAt line 1) ≡ true → isScore (numberAt line 2) && isWeight (numberAt line 3) ≡ rangesU line
+  u-score h = rw h
+
+  pub d-first : isHistoryWord (numberAt line 1) ≡ false → false ≡ rangesD line
+  d-first h = rw h
+
+  pub d-word : isHistoryWord (numberAt line 1) ≡ true → isLastWord (numberAt line 2) ≡ false → false ≡ rangesD line
+  d-word h k = rw (h, k)
+
+  pub d-score : isHistoryWord (numberAt line 1) ≡ true → isLastWord (numberAt line 2) ≡ true → isScore (numberAt line 3) && isWeight (numberAt line 4) ≡ rangesD line
+  d-score h k = rw (h, k)
+
+  -- the score at k and the weight behind it
+  pub weighted-score : (k : ℕ) → isScore (numberAt line k) ≡ false → false ≡ isScore (numberAt line k) && isWeight (numberAt line (k + 1))
+  weighted-score k h = rw h
+
+  pub weighted-both : (k : ℕ) → isScore (numberAt line k) ≡ true → isScore (numberAt line (k + 1)) ≡ isScore (numberAt line k) && isWeight (numberAt line (k + 1))
+  weighted-both k h = rw h

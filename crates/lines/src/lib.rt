@@ -1,26 +1,28 @@
 // A line of a book as numbers, its kind first: what questions 2 and 4 ask of one line. A text's line and a loaded list's line
 // are judged by the same functions.
 ghost use mathlib.Core.Path.{_≡_};
+ghost use mathlib.Core.Bool.{_&&_};
 ghost use mathlib.Core.List.{dropLast};
-ghost use Prim.Native.Nat.{_-_, _%_, _≤_};
+ghost use Prim.Native.Nat.{_+_, _-_, _%_, _≤_};
 ghost use lib.IntN.{pos, negℤ};
 ghost use lib.ListN.{length, drop};
 ghost use Rattle.laws.specs.Lists.{all};
 ghost use Rattle.meaning.specs.Bounds.{wordSpan};
 ghost use Rattle.meaning.specs.Questions.{withinℤ};
 ghost use Rattle.laws.specs.Integers.{natOf};
-ghost use Rattle.meaning.specs.Book.{Form, InText, numberAt, naturalAt, isKind, isPhraseLength, phraseSize, sizeOf, isWhole, isScore, isWord, isPhraseWord, isHistoryWord, isLastWord, rangesB, rangesP, rangesT, isInRange, kinds};
+ghost use Rattle.meaning.specs.Book.{Form, InText, numberAt, naturalAt, isKind, isPhraseLength, phraseSize, sizeOf, isWhole, isScore, isWord, isPhraseWord, isHistoryWord, isLastWord, isLoneWord, isWeight, rangesB, rangesP, rangesT, rangesU, rangesD, isInRange, orderOf, kinds};
 ghost use Rattle.lines.specs.Kinds.{kindOf, mostOf};
 
-// "At most 4,096 P and 8,192 T lines."
+// "At most 4,096 P .. lines."
 pub const PHRASES_MOST: usize = 4096;
 
-pub const TRIPLES_MOST: usize = 8192;
+// "Up to 8,192 lines of each kind": T, U and D.
+pub const GRAMS_MOST: usize = 8192;
 
 // How many kinds there are, and how many lines of each a book may have, by the kind's number; there is no kind 0.
-pub const KINDS: usize = 3;
+pub const KINDS: usize = 5;
 
-const MOST: [usize; KINDS + 1] = [0, 1, PHRASES_MOST, TRIPLES_MOST];
+const MOST: [usize; KINDS + 1] = [0, 1, PHRASES_MOST, GRAMS_MOST, GRAMS_MOST, GRAMS_MOST];
 
 // The numbers from 0, the start symbol, to the last word.
 pub const WORD_SPAN: usize = 65536;
@@ -53,7 +55,7 @@ pub fn word_at(line: &[i32], k: usize) -> u16
     (natural_at(line, k) % WORD_SPAN) as u16
 }
 
-// The line is of the kind k, row k of the table: 1 for B, 2 for P, 3 for T.
+// The line is of the kind k, row k of the table: 1 for B, 2 for P, 3 for T, 4 for U, 5 for D.
 pub fn is_kind(line: &[i32], k: usize) -> bool
     ensures { λ r. ⌜ r ≡ isKind k (now (line .entry)) ⌝ }
 {
@@ -75,6 +77,23 @@ pub fn most_of(k: usize) -> usize
     ensures { λ r. ⌜ r ≡ mostOf k ⌝ }
 {
     MOST[k]
+}
+
+// How many words the n-gram has that the line lists: three of a T, two of a D, one of a U line; 0 where it lists none.
+pub fn order_of(line: &[i32]) -> usize
+    ensures { λ r. ⌜ r ≡ orderOf (now (line .entry)) ⌝ }
+    ensures { λ r. ⌜ r ≤ 3 ⌝ }
+{
+    if is_kind(line, 3) {
+        return 3;
+    }
+    if is_kind(line, 5) {
+        return 2;
+    }
+    if is_kind(line, 4) {
+        return 1;
+    }
+    0
 }
 
 // The number of source or of target words of a P line.
@@ -110,6 +129,12 @@ pub fn size_of(line: &[i32]) -> usize
     if is_kind(line, 3) {
         return 5;
     }
+    if is_kind(line, 4) {
+        return 4;
+    }
+    if is_kind(line, 5) {
+        return 5;
+    }
     0
 }
 
@@ -123,7 +148,7 @@ pub fn is_whole(line: &[i32]) -> bool
     line.len() == size_of(line)
 }
 
-// A score u, g or s.
+// A score u, g or s, or a back-off weight k.
 pub fn is_score(x: i32) -> bool
     ensures { λ r. ⌜ r ≡ isScore x ⌝ }
 {
@@ -144,18 +169,25 @@ fn is_phrase_word(x: i32) -> bool
     is_word(x)
 }
 
-// The word v or w of a triple.
+// The word v or w of a triple, the word w of a pair.
 fn is_history_word(x: i32) -> bool
     ensures { λ r. ⌜ r ≡ isHistoryWord x ⌝ }
 {
     0 <= x && x <= 65_535
 }
 
-// The word y of a triple, its last.
+// The word y of a triple or of a pair, its last.
 fn is_last_word(x: i32) -> bool
     ensures { λ r. ⌜ r ≡ isLastWord x ⌝ }
 {
     is_word(x)
+}
+
+// The word y of a U line; it may be the start symbol.
+fn is_lone_word(x: i32) -> bool
+    ensures { λ r. ⌜ r ≡ isLoneWord x ⌝ }
+{
+    0 <= x && x <= 65_535
 }
 
 // The reordering limit d of a B line.
@@ -235,6 +267,40 @@ fn ranges_t(line: &[i32]) -> bool
     is_score(number_at(line, 4))
 }
 
+// The score at k and the back-off weight behind it.
+fn is_weighted(line: &[i32], k: usize) -> bool
+    requires { ⌜ k ≤ 3 ⌝ }
+    ensures { λ r. ⌜ r ≡ isScore (numberAt (now (line .entry)) k) && isWeight (numberAt (now (line .entry)) (k + 1)) ⌝ }
+{
+    if !is_score(number_at(line, k)) {
+        return false;
+    }
+    is_score(number_at(line, k + 1))
+}
+
+// Question 4, of a U line.
+fn ranges_u(line: &[i32]) -> bool
+    ensures { λ r. ⌜ r ≡ rangesU (now (line .entry)) ⌝ }
+{
+    if !is_lone_word(number_at(line, 1)) {
+        return false;
+    }
+    is_weighted(line, 2)
+}
+
+// Question 4, of a D line.
+fn ranges_d(line: &[i32]) -> bool
+    ensures { λ r. ⌜ r ≡ rangesD (now (line .entry)) ⌝ }
+{
+    if !is_history_word(number_at(line, 1)) {
+        return false;
+    }
+    if !is_last_word(number_at(line, 2)) {
+        return false;
+    }
+    is_weighted(line, 3)
+}
+
 // Question 4, of a line; no number of an unknown kind, which question 2 refuses, is in range.
 pub fn is_in_range(line: &[i32]) -> bool
     ensures { λ r. ⌜ r ≡ isInRange (now (line .entry)) ⌝ }
@@ -247,6 +313,12 @@ pub fn is_in_range(line: &[i32]) -> bool
     }
     if is_kind(line, 3) {
         return ranges_t(line);
+    }
+    if is_kind(line, 4) {
+        return ranges_u(line);
+    }
+    if is_kind(line, 5) {
+        return ranges_d(line);
     }
     false
 }

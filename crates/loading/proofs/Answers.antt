@@ -1,31 +1,34 @@
--- Questions 3 to 6 by the survey: what an answer of `surveyRefusal` and of the comparison of the triples says of all lines.
-use Prim.Native.Nat.{ℕ, _-_, _≤_}
+-- Questions 3 to 6 and 20 by the survey: what an answer of `surveyRefusal` and of the comparison of the n-grams says of all lines.
+use Prim.Native.Nat.{ℕ, _+_, _-_, _≤_, _<_}
 use native.Mathlib.Omega.{arith}
 use mathlib.Core.Path.{_≡_, refl, sym, _∙_, ap, ap₂}
 use mathlib.Core.Bool.{Bool, true, false, _&&_}
-use mathlib.Core.List.{List, map}
-use borrow.Author.Tests.{leb-true}
+use mathlib.Core.List.{List, [], List·Memᴰ}
+use borrow.Author.Tests.{leb-true, eqb-true, eq-eqb, not-true}
 use lib.Dec.{eqb}
 use lib.IntN.{ℤ}
 use lib.ListN.{length, getD}
-use Rattle.laws.specs.Lists.{all, keep, count, noneTwice, numbersFrom}
-use Rattle.laws.proofs.Lists.{keep-length, all-mem, mem-numbers}
+use Rattle.laws.specs.Lists.{all, any, keep, count, noneTwice, numbersFrom}
+use Rattle.laws.proofs.Lists.{keep-length, keep-mem, getD-mem, all-mem, mem-any, mem-numbers, count-none}
+use Rattle.laws.proofs.Tests.{by-test, is-false, clash}
 use Rattle.meaning.specs.Questions.{_unless_, _orelse_, number}
-use Rattle.meaning.specs.Book.{Form, InList, kinds, isT, isWhole, isOneBFirst, isInRange, isNoTripleTwice, linesRefusal, tripleOf, bookOfLines, loadedLines}
+use Rattle.meaning.specs.Book.{Form, InList, kinds, isKind, isU, isD, isWhole, isOneBFirst, isInRange, isNoTripleTwice, isNoShorterTwice, linesRefusal, orderOf, isGram, bookOfLines, loadedLines}
 use Rattle.meaning.specs.declared.Refusal.{Refusal}
 use Rattle.meaning.proofs.Chains.{rest-passes, test-passes}
 use Rattle.ngrams.specs.Parts.{recordsMost, recordsFrom, recordsEnd, KeptFrom}
-use Rattle.ngrams.specs.Grams.{keysIn, triplesIn, sameKey, Indexed}
-use Rattle.ngrams.proofs.Differ.{kept-keys, kept-triples}
-use Rattle.ngrams.proofs.Lines.{Copied, triples-are, answers-6}
+use Rattle.ngrams.specs.declared.Key.{Key}
+use Rattle.ngrams.specs.Grams.{keyAt, keysIn, gramsIn, sameKey, repeatRefusal, Indexed}
+use Rattle.ngrams.proofs.Differ.{kept-listing, kept-grams}
+use Rattle.ngrams.proofs.Lines.{Copied, copied-key, grams-are, keys-padded}
+use Rattle.ngrams.proofs.Repeats.{orders, none-alike, answers}
 use Rattle.lines.specs.Kinds.{mostOf}
 use Rattle.book.specs.declared.survey.Survey.{Survey}
 use Rattle.book.specs.declared.loaded.Surveyed.{Surveyed}
 use Rattle.book.specs.declared.loaded.Surveyed.the-variants.{Whole, Broken}
-use Rattle.book.specs.Survey.{isFew, areAllFew, surveyRefusal}
+use Rattle.book.specs.Survey.{isFew, areAllFew, shorterCount, gramCount, surveyRefusal}
 use Rattle.book.specs.Loaded.{SurveyOf}
-use Rattle.book.proofs.Counts.{tally-is, survey-refusal}
-use Rattle.book.proofs.Triples.{grams-long, grams-hold}
+use Rattle.book.proofs.Counts.{tally-is, grams-counted, repeatsRefusal, survey-refusal}
+use Rattle.book.proofs.Gathered.{grams-long, grams-hold}
 use Rattle.loading.specs.Loaded.{WholeAs, SurveyIs, Known}
 use Rattle.meaning.proofs.Numbered.{number-from, refused-first}
 
@@ -49,9 +52,14 @@ judged-few s tally e =
     let after3 = rest-passes (3 unless (s .headed && eqb (getD tally 1 0) 1)) _ e in
     test-passes 4 (areAllFew tally) (rest-passes (4 unless s .ranged) _ after3)
 
--- so there are no more T lines than there is room for
-pub few-triples : (tally : List ℕ) → areAllFew tally ≡ true → getD tally 3 0 ≤ recordsMost
-few-triples tally f = leb-true (getD tally 3 0) (mostOf 3) (all-mem (isFew tally) (numbersFrom 2 (length kinds - 1)) f 3 (mem-numbers 2 (length kinds - 1) 1 (omega arith)))
+-- so there are no more lines of n-grams than there is room for
+few-of : (tally : List ℕ) (k : ℕ) → 2 ≤ k → k ≤ length kinds → areAllFew tally ≡ true → getD tally k 0 ≤ mostOf k
+few-of tally k a b f =
+    let z : 2 + (k - 2) ≡ k = omega arith in
+    leb-true (getD tally k 0) (mostOf k) (all-mem (isFew tally) (numbersFrom 2 (length kinds - 1)) f k (rw z at (mem-numbers 2 (length kinds - 1) (k - 2) (omega arith))))
+
+pub few-grams : (tally : List ℕ) → areAllFew tally ≡ true → gramCount tally ≤ recordsMost
+few-grams tally f = omega (arith, few-of tally 3 (omega arith) (omega arith) f, few-of tally 4 (omega arith) (omega arith) f, few-of tally 5 (omega arith) (omega arith) f)
 
 -- a refusal by a later question, or none, has passed question 4
 later : (a b c : Bool) (m j : ℕ) → (2 unless a orelse 3 unless b orelse 4 unless c orelse m) ≡ j → (j ≡ 2 → ⊥) → (j ≡ 3 → ⊥) → (j ≡ 4 → ⊥) → c ≡ true
@@ -60,62 +68,93 @@ later true true false m j e two three four = absurd (four (sym e))
 later true false c m j e two three four = absurd (three (sym e))
 later false b c m j e two three four = absurd (two (sym e))
 
--- ════ question 6
+-- a line of an n-gram that is no U and no D line lists three words
+triple-order : (line : List ℤ) → isGram line ≡ true → isU line ≡ false → isD line ≡ false → orderOf line ≡ 3
+triple-order line g u d =
+    let o = orders line in
+    by-test (eqb (orderOf line) 3) (λ t. eqb-true (orderOf line) 3 t)
+    (λ t. by-test (eqb (orderOf line) 2) (λ s. absurd (clash (o .1 ∙ rw (g, t, s)) d)) (λ s. absurd (clash (o .2 ∙ rw (g, t, s)) u)))
+
+-- what none passes
+none-of : (test : List ℤ → Bool) (lines : List (List ℤ)) → count test lines ≡ 0 → (line : List ℤ) → List·Memᴰ line lines → test line ≡ false
+none-of test lines z line m = is-false (λ t. clash (mem-any test lines line m t) (not-true (any test lines) (sym (count-none test lines) ∙ eq-eqb (count test lines) 0 z)))
+
+-- ════ questions 6 and 20
+
+-- it is one of two refusals, or none
+pub compared-none : (lines : List (List ℤ)) (k : ℕ) → k ≡ repeatsRefusal lines → (k ≡ 6 → ⊥) → (k ≡ 20 → ⊥) → (isNoTripleTwice lines ≡ true) × (isNoShorterTwice lines ≡ true)
+compared-none lines k e six twenty = by (isNoTripleTwice lines) (isNoShorterTwice lines) e
+  where
+    by : (a b : Bool) → k ≡ (6 unless a orelse 20 unless b) → (a ≡ true) × (b ≡ true)
+    by true true q = (refl, refl)
+    by true false q = absurd (twenty q)
+    by false b q = absurd (six q)
 
 module _ {form : Form} {lines : List (List ℤ)} {index₀ index tally : List ℕ} {s : Survey} (w : WholeAs form lines index₀ index tally s) (room : recordsEnd ≤ length index) (four : surveyRefusal s tally ≡ 0) where
-  refusal-6 : linesRefusal form lines ≡ 6 unless isNoTripleTwice lines
-  refusal-6 = survey-refusal form lines (w .whole) ∙ ap (λ (k : ℕ). k orelse 6 unless isNoTripleTwice lines) (ap₂ surveyRefusal (sym (w .surveyed)) (sym (w .tallied)) ∙ four)
+  last-refusal : linesRefusal form lines ≡ repeatsRefusal lines
+  last-refusal = survey-refusal form lines (w .whole) ∙ ap (λ (k : ℕ). k orelse repeatsRefusal lines) (ap₂ surveyRefusal (sym (w .surveyed)) (sym (w .tallied)) ∙ four)
 
-  -- how many T lines there are
-  abbrev many : ℕ
-  many = getD tally 3 0
+  -- how many lines there are of each kind, and of n-grams
+  counted-kind : (k : ℕ) → 1 ≤ k → k ≤ length kinds → getD tally k 0 ≡ count (isKind k) lines
+  counted-kind k a b = ap (λ (x : List ℕ). getD x k 0) (w .tallied) ∙ tally-is k a b lines
 
-  counted : many ≡ count isT lines
-  counted = ap (λ (x : List ℕ). getD x 3 0) (w .tallied) ∙ tally-is 3 (omega arith) (omega arith) lines
+  counted : gramCount tally ≡ count isGram lines
+  counted = ap gramCount (w .tallied) ∙ grams-counted lines
 
   ranged : all isInRange lines ≡ true
   unfolding linesRefusal
-  ranged = by (isNoTripleTwice lines) refusal-6
+  ranged = by (isNoTripleTwice lines) (isNoShorterTwice lines) last-refusal
     where
-      by : (b : Bool) → linesRefusal form lines ≡ 6 unless b → all isInRange lines ≡ true
-      by true e = later (all (isWhole form) lines) (isOneBFirst lines) (all isInRange lines) _ 0 e (omega arith) (omega arith) (omega arith)
-      by false e = later (all (isWhole form) lines) (isOneBFirst lines) (all isInRange lines) _ 6 e (omega arith) (omega arith) (omega arith)
+      by : (a b : Bool) → linesRefusal form lines ≡ (6 unless a orelse 20 unless b) → all isInRange lines ≡ true
+      by true true e = later (all (isWhole form) lines) (isOneBFirst lines) (all isInRange lines) _ 0 e (omega arith) (omega arith) (omega arith)
+      by true false e = later (all (isWhole form) lines) (isOneBFirst lines) (all isInRange lines) _ 20 e (omega arith) (omega arith) (omega arith)
+      by false b e = later (all (isWhole form) lines) (isOneBFirst lines) (all isInRange lines) _ 6 e (omega arith) (omega arith) (omega arith)
 
-  -- the records are the numbers of the T lines
-  copied : Copied index (keep isT lines)
+  -- the records are the numbers of the lines
+  copied : Copied index (keep isGram lines)
   copied = record {
     at = λ k f h l.
-        let n : length (keep isT lines) ≡ count isT lines = keep-length isT lines in
+        let n : length (keep isGram lines) ≡ count isGram lines = keep-length isGram lines in
         let z = counted in
-        let few = few-triples tally (judged-few s tally four) in
+        let few = few-grams tally (judged-few s tally four) in
         rw (w .gathered) (grams-hold index₀ lines (omega arith) (omega (arith, ap length (w .gathered), grams-long index₀ 0 lines)) k f (omega arith) l);
   }
 
-  held : triplesIn index many ≡ map tripleOf (keep isT lines)
-  held = ap (triplesIn index) counted ∙ triples-are index lines copied form (w .whole) ranged
+  pub compared-so : repeatRefusal index (gramCount tally) ≡ linesRefusal form lines
+  compared-so = ap (repeatRefusal index) counted ∙ answers form lines (w .whole) ranged index copied ∙ sym last-refusal
 
-  answer-6 : noneTwice sameKey (keysIn index many) ≡ isNoTripleTwice lines
-  answer-6 = ap (λ (n : ℕ). noneTwice sameKey (keysIn index n)) counted ∙ answers-6 form index lines copied (w .whole) ranged
+  -- where no U and no D line is counted, every n-gram is a triple
+  only-triples : shorterCount tally ≡ 0 → (k : ℕ) → k < gramCount tally → keyAt index k .order ≡ 3
+  only-triples z k l =
+      let m : k < length (keep isGram lines) = omega (arith, keep-length isGram lines, counted) in
+      let line = getD (keep isGram lines) k [] in
+      let is = keep-mem isGram lines (getD-mem (keep isGram lines) k [] m) in
+      ap (λ (key : Key). key .order) (copied-key copied k m)
+      ∙ triple-order line (is .1)
+      (none-of isU lines (omega (arith, z, counted-kind 4 (omega arith) (omega arith))) line (is .0))
+      (none-of isD lines (omega (arith, z, counted-kind 5 (omega arith) (omega arith))) line (is .0))
 
-  pub repeated-so : false ≡ noneTwice sameKey (keysIn index many) → linesRefusal form lines ≡ 6
-  repeated-so e = refusal-6 ∙ ap (λ (b : Bool). 6 unless b) (sym (e ∙ answer-6))
-
-  -- `all_different` left the records as they were
-  pub different-so : {after : List ℕ} → KeptFrom recordsFrom index after → true ≡ noneTwice sameKey (keysIn index many) → Indexed after many → Known (linesRefusal form lines) (bookOfLines lines) after many
+  -- `index_all` left the records as they were
+  pub different-so : {after : List ℕ} → KeptFrom recordsFrom index after → (k : ℕ) → k ≡ repeatRefusal index (gramCount tally) → (k ≡ 6 → ⊥) → (k ≡ 20 → ⊥) → Indexed after (gramCount tally)
+      → Known (linesRefusal form lines) (bookOfLines lines) after (record { count = gramCount tally; shorter = shorterCount tally })
   unfolding bookOfLines
-  different-so same e x = record {
-    passes = refusal-6 ∙ ap (λ (b : Bool). 6 unless b) (sym (e ∙ answer-6));
-    triples-are = kept-triples same many ∙ held;
-    different = ap (noneTwice sameKey) (kept-keys same many) ∙ sym e;
-    indexed = x;
-  }
+  different-so {after} same k e six twenty x =
+      let n = compared-none lines k (e ∙ compared-so ∙ last-refusal) six twenty in
+      record {
+        passes = last-refusal ∙ rw (n .0, n .1);
+        grams-are = kept-grams same (gramCount tally) ∙ ap (gramsIn index) counted ∙ grams-are form index lines copied (w .whole) ranged;
+        listing = kept-listing same x
+            (ap (λ (m : ℕ). noneTwice sameKey (keysIn index m)) counted ∙ none-alike form lines (w .whole) ranged index copied (n .0) (n .1))
+            (λ j l. keys-padded form index lines copied (w .whole) ranged j (omega (arith, counted)))
+            only-triples;
+      }
 
 -- a refusal by questions 3 to 5 is the lines' refusal
 pub judged-so : {form : Form} {lines : List (List ℤ)} {index₀ index tally : List ℕ} {s : Survey} → WholeAs form lines index₀ index tally s → (refusal : Refusal) → number refusal ≡ surveyRefusal s tally
     → linesRefusal form lines ≡ number refusal
 judged-so {form} {lines} w refusal e =
     survey-refusal form lines (w .whole)
-    ∙ ap (λ (j : ℕ). j orelse 6 unless isNoTripleTwice lines) (ap₂ surveyRefusal (sym (w .surveyed)) (sym (w .tallied)) ∙ sym e)
+    ∙ ap (λ (j : ℕ). j orelse repeatsRefusal lines) (ap₂ surveyRefusal (sym (w .surveyed)) (sym (w .tallied)) ∙ sym e)
     ∙ refused-first (number refusal) _ (number-from refusal)
 
 -- ════ a loaded list

@@ -1,20 +1,21 @@
--- What the lines of a book answer to questions 2 to 6, and what a search has of a book that passes them.
+-- What the lines of a book answer to questions 2 to 6 and 20, and what a search has of a book that passes them.
 use Prim.Native.Nat.{ℕ}
 use mathlib.Core.Path.{_≡_}
 use mathlib.Core.Bool.{true, false}
 use mathlib.Core.List.{List}
 use lib.IntN.{ℤ}
-use Rattle.laws.specs.Lists.{all, noneTwice}
+use Rattle.laws.specs.Lists.{all}
 use Rattle.meaning.specs.Questions.{number}
 use Rattle.meaning.specs.Book.{Form, isWhole, Book}
 use Rattle.meaning.specs.declared.Checked.{Checked}
 use Rattle.meaning.specs.declared.Checked.the-variants.{Passed, Refused as CheckRefused}
-use Rattle.ngrams.specs.Grams.{keysIn, triplesIn, sameKey, Indexed}
+use Rattle.ngrams.specs.Grams.{gramsIn, Listing}
 use Rattle.book.specs.declared.survey.Survey.{Survey}
 use Rattle.book.specs.declared.loaded.Surveyed.{Surveyed}
 use Rattle.book.specs.declared.loaded.Surveyed.the-variants.{Whole, Broken}
 use Rattle.book.specs.Survey.{fresh, surveyFrom, noTally, tallyFrom}
 use Rattle.book.specs.Grams.{gramsFrom}
+use Rattle.loading.specs.declared.load.Grams.{Grams}
 use Rattle.loading.specs.declared.load.Loaded.{Loaded}
 use Rattle.loading.specs.declared.load.Loaded.the-variants.{Book as Passes, Refused}
 
@@ -38,21 +39,20 @@ abbrev pub SurveyIs : Form → List (List ℤ) → List ℕ → List ℕ → Lis
 SurveyIs form lines index₀ index₁ tally (Whole s) = WholeAs form lines index₀ index₁ tally s
 SurveyIs form lines index₀ index₁ tally Broken = all (isWhole form) lines ≡ false
 
--- ════ what questions 2 to 6 answer
+-- ════ what questions 2 to 6 and 20 answer
 
--- none refuses: how many triples the book has, and its triples as indexed records
-pub record Known (refusal : ℕ) (book : Book) (index : List ℕ) (triples : ℕ) : Type 0 where
+-- none refuses: how many n-grams the book has and how many of them are shorter than a triple, and its n-grams as indexed records
+pub record Known (refusal : ℕ) (book : Book) (index : List ℕ) (grams : Grams) : Type 0 where
   pub passes : refusal ≡ 0
-  pub triples-are : triplesIn index triples ≡ book .triples
-  pub different : noneTwice sameKey (keysIn index triples) ≡ true
-  pub indexed : Indexed index triples
+  pub grams-are : gramsIn index (grams .count) ≡ book .grams
+  pub listing : Listing index (grams .count) (grams .shorter)
 
 -- of lines or a list that the questions answer with `refusal`, 0 for none, and that state the book `book`
 abbrev pub Answered : ℕ → Book → List ℕ → Loaded → Type 0
-Answered refusal book index (Passes triples) = Known refusal book index triples
+Answered refusal book index (Passes grams) = Known refusal book index grams
 Answered refusal book index (Refused question) = refusal ≡ number question
 
 -- the answer without what a search needs
 abbrev pub replied : Loaded → Checked
-replied (Passes triples) = Passed
+replied (Passes grams) = Passed
 replied (Refused refusal) = CheckRefused refusal

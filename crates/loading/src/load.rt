@@ -1,4 +1,4 @@
-// A book's questions 2 to 6, asked of the survey of its lines, and what a search needs of a book that passes them. The survey
+// A book's questions 2 to 6 and 20, asked of the survey of its lines, and what a search needs of a book that passes them. The survey
 // is of a loaded list or of a text: what follows it is the same.
 use book::loaded;
 use book::loaded::Surveyed;
@@ -18,9 +18,15 @@ ghost use Rattle.book.specs.declared.survey.Survey.{Survey};
 ghost use Rattle.book.specs.Survey.{tallySize, areAllFew, surveyRefusal};
 ghost use Rattle.loading.specs.Loaded.{refusalOf, WholeAs, SurveyIs, Answered};
 
-// What the lines of a book answer to questions 2 to 6: how many of them are T lines, or the refusal.
+// How many of a book's lines list an n-gram, and how many of those a pair or a word.
+pub struct Grams {
+    pub count: usize,
+    pub shorter: usize,
+}
+
+// What the lines of a book answer to questions 2 to 6 and 20: their n-grams' counts, or the refusal.
 pub enum Loaded {
-    Book(usize),
+    Book(Grams),
     Refused(Refusal),
 }
 
@@ -42,21 +48,26 @@ fn judge(s: Survey, tally: &[usize]) -> Checked
     Checked::Passed
 }
 
-// Question 6, of lines that passed 2 to 5. Where it passes, the records are indexed.
+// Questions 6 and 20, of lines that passed 2 to 5. Where they pass, the records are indexed.
 fn compare(index: &mut [u16], tally: &[usize]) -> Loaded
     requires { ⌜ recordsEnd ≤ length (now index) ⌝ }
     requires { ⌜ length (now tally) ≡ tallySize ⌝ }
     requires { ⌜ areAllFew (now tally) ≡ true ⌝ }
     ensures { λ r. ⌜ ((form : Form) (lines : List (List ℤ)) (index₀ : List ℕ) (s : Survey) → WholeAs form lines index₀ (now (index .entry)) (now (tally .entry)) s → surveyRefusal s (now (tally .entry)) ≡ 0 → Answered (linesRefusal form lines) (bookOfLines lines) (now (index .exit)) r) ⌝ }
 {
-    let triples = tally[3];
-    if ngrams::all_different(index, triples) {
-        return Loaded::Book(triples);
+    let count = survey::gram_count(tally);
+    let refusal = ngrams::index_all(index, count);
+    if refusal == 6 {
+        return Loaded::Refused(Refusal::RepeatedTriple);
     }
-    Loaded::Refused(Refusal::RepeatedTriple)
+    if refusal == 20 {
+        return Loaded::Refused(Refusal::RepeatedShorter);
+    }
+    let shorter = survey::shorter_count(tally);
+    Loaded::Book(Grams { count, shorter })
 }
 
-// Questions 3 to 6, of lines that passed 2.
+// Questions 3 to 6 and 20, of lines that passed 2.
 pub fn settle_whole(s: Survey, index: &mut [u16], tally: &[usize]) -> Loaded
     requires { ⌜ recordsEnd ≤ length (now index) ⌝ }
     requires { ⌜ length (now tally) ≡ tallySize ⌝ }
@@ -68,7 +79,7 @@ pub fn settle_whole(s: Survey, index: &mut [u16], tally: &[usize]) -> Loaded
     }
 }
 
-// Questions 2 to 6, of lines that were surveyed, their records in `index` and how many there are of each kind in the tally.
+// Questions 2 to 6 and 20, of lines that were surveyed, their records in `index` and how many there are of each kind in the tally.
 // Where they pass, the records are indexed.
 pub fn settle(surveyed: Surveyed, index: &mut [u16], tally: &[usize]) -> Loaded
     requires { ⌜ recordsEnd ≤ length (now index) ⌝ }
@@ -81,7 +92,7 @@ pub fn settle(surveyed: Surveyed, index: &mut [u16], tally: &[usize]) -> Loaded
     }
 }
 
-// Questions 2 to 6, of a loaded book. Where they pass, `index` holds its triples as indexed records; after a refusal, what it
+// Questions 2 to 6 and 20, of a loaded book. Where they pass, `index` holds its n-grams as indexed records; after a refusal, what it
 // holds is not said.
 pub fn load(book: &[i32], index: &mut [u16]) -> Loaded
     requires { ⌜ recordsEnd ≤ length (now index) ⌝ }

@@ -124,7 +124,7 @@ module _ (book : Book) (direction : List ℕ) (width : ℤ) where
   unfolding wordsCovered
   covered-to q m = let n = legal-length book direction width q (legal q m) in let c = count-le (λ bit. bit) (q .key .covered) in omega arith
 
-  -- at most 9,320,000 for each covered word, on either side of 0
+  -- at most 25,320,000 for each covered word, on either side of 0
   pub entered-bound : Ranged book → (q : Hyp) → List·Memᴰ q (entered book direction width) → Within (gainBound * wordsCovered (q .key)) (q .score)
   entered-bound R q m = score-within book direction width R q (legal q m)
 

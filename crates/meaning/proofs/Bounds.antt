@@ -1,33 +1,58 @@
--- No step adds more than 9,320,000 to a score on either side of 0.
+-- No step adds more than 25,320,000 to a score on either side of 0.
 use Prim.Native.Nat.{ℕ, _+_, _*_, _≤_}
 use native.Mathlib.Omega.{arith}
 use mathlib.Core.Path.{_≡_, refl}
 use mathlib.Core.Bool.{true, _&&_}
 use mathlib.Core.List.{List, [], _∷_, List·Memᴰ, List·Memᴰ·head, List·Memᴰ·tail}
 use borrow.Author.Tests.{leb-true}
-use lib.IntN.{ℤ}
+use lib.Dec.{eqb}
+use lib.IntN.{ℤ, pos}
 use lib.ListN.{length}
 use Rattle.laws.specs.Integers.{Within}
+use Rattle.laws.specs.Lists.{eqList}
 use Rattle.laws.proofs.Tests.{if-ind, both}
 use Rattle.laws.proofs.Bounds.{within-+, within-*, within-mono, within-pos}
-use Rattle.meaning.specs.Bounds.{scoreMost, penaltyMost, wordsBound}
-use Rattle.meaning.specs.Book.{Book, Triple}
-use Rattle.meaning.specs.Derivation.{isTriple, listedScore, tripleScore, wordsScore, entryAt, fits, jump}
+use Rattle.meaning.specs.Bounds.{scoreMost, penaltyMost, tripleBound, wordsBound}
+use Rattle.meaning.specs.Book.{Book, Gram}
+use Rattle.meaning.specs.Derivation.{listed, scoreOr, weight, wordScore, pairScore, backedOff, tripleScore, wordsScore, entryAt, fits, jump}
 use Rattle.meaning.specs.State.{Key, isFree, mayExtend, gain, gainBound}
 use Rattle.meaning.specs.declared.Step.{Step}
 use Rattle.meaning.proofs.Ranges.{Ranged}
 
-listed-within : (v w y : ℕ) (u : ℤ) (ts : List Triple) → Within scoreMost u → ((t : Triple) → List·Memᴰ t ts → Within scoreMost (t .s)) → Within scoreMost (listedScore v w y u ts)
-listed-within v w y u [] h each = h
-listed-within v w y u (t ∷ ts) h each =
-    if-ind (isTriple v w y t) (Within scoreMost) (λ _. each t (List·Memᴰ·head refl)) (λ _. listed-within v w y u ts h (λ x m. each x (List·Memᴰ·tail m)))
+listed-within : (B : ℕ) (number : Gram → ℤ) (other : ℤ) (words : List ℕ) (gs : List Gram) → Within B other → ((g : Gram) → List·Memᴰ g gs → Within B (number g)) → Within B (listed number other words gs)
+listed-within B number other words [] h each = h
+listed-within B number other words (g ∷ gs) h each =
+    if-ind (eqList eqb (g .words) words) (Within B) (λ _. each g (List·Memᴰ·head refl)) (λ _. listed-within B number other words gs h (λ x m. each x (List·Memᴰ·tail m)))
+
+-- ════ the language model: its score of an unseen word and its n-grams are in their ranges
+
+module _ (u : ℤ) (grams : List Gram) (unseen-within : Within scoreMost u) (gram-within : (g : Gram) → List·Memᴰ g grams → Within scoreMost (g .s) × Within scoreMost (g .k)) where
+  pub score-or : (B : ℕ) (other : ℤ) (words : List ℕ) → scoreMost ≤ B → Within B other → Within B (scoreOr grams other words)
+  score-or B other words l h = listed-within B (λ g. g .s) other words grams h (λ g m. within-mono l (gram-within g m .0))
+
+  pub weight-within : (words : List ℕ) → Within scoreMost (weight grams words)
+  weight-within words = listed-within scoreMost (λ g. g .k) (pos 0) words grams (omega arith) (λ g m. gram-within g m .1)
+
+  pub word-within : (y : ℕ) → Within scoreMost (wordScore u grams y)
+  unfolding wordScore
+  word-within y = score-or scoreMost u (y ∷ []) (omega arith) unseen-within
+
+  pub pair-within : (w y : ℕ) → Within (2 * scoreMost) (pairScore u grams w y)
+  unfolding pairScore
+  pair-within w y = score-or (2 * scoreMost) _ (w ∷ y ∷ []) (omega arith) (within-mono (omega arith) (within-+ (weight-within (w ∷ [])) (word-within y)))
+
+  pub backed-within : (v w y : ℕ) → Within tripleBound (backedOff u grams v w y)
+  unfolding backedOff
+  backed-within v w y = score-or tripleBound _ (v ∷ w ∷ y ∷ []) (omega arith) (within-mono (omega arith) (within-+ (weight-within (v ∷ w ∷ [])) (pair-within w y)))
+
+-- ════ a step
 
 module _ (book : Book) (R : Ranged book) where
-  pub triple-within : (v w y : ℕ) → Within scoreMost (tripleScore book v w y)
+  pub triple-within : (v w y : ℕ) → Within tripleBound (tripleScore book v w y)
   unfolding tripleScore
-  triple-within v w y = listed-within v w y (book .unseen) (book .triples) (R .unseen-within) (R .triple-within)
+  triple-within v w y = backed-within (book .unseen) (book .grams) (R .unseen-within) (R .gram-within) v w y
 
-  pub words-within : (v w : ℕ) (ys : List ℕ) → Within (length ys * scoreMost) (wordsScore book v w ys)
+  pub words-within : (v w : ℕ) (ys : List ℕ) → Within (length ys * tripleBound) (wordsScore book v w ys)
   unfolding wordsScore
   words-within v w [] = omega arith
   words-within v w (y ∷ ys) = within-mono (omega arith) (within-+ (triple-within v w y) (words-within w y ys))

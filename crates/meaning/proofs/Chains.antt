@@ -40,14 +40,15 @@ pub skip : (k m j : ℕ) → (k ≡ j → ⊥) → k orelse m ≡ j → m ≡ j
 skip zero m j h e = e
 skip (suc k) m j h e = absurd (h e)
 
--- a chain's number is one of its questions'
-pub chain-to : (k m n : ℕ) → k ≤ n → m ≤ n → (k orelse m) ≤ n
-chain-to zero m n g h = h
-chain-to (suc k) m n g h = g
+-- a chain's number is one of its questions', or 0: what holds of each of these holds of it
+module _ (Q : ℕ → Type 0) where
+  pub chain-ind : (k m : ℕ) → Q k → Q m → Q (k orelse m)
+  chain-ind zero m g h = h
+  chain-ind (suc k) m g h = g
 
-pub test-to : (k : ℕ) (test : Bool) (n : ℕ) → k ≤ n → (k unless test) ≤ n
-test-to k true n h = omega arith
-test-to k false n h = h
+  pub test-ind : (k : ℕ) (test : Bool) → Q 0 → Q k → Q (k unless test)
+  test-ind k true z h = z
+  test-ind k false z h = h
 
 -- ---- replies
 

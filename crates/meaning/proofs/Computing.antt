@@ -2,9 +2,9 @@
 use Rattle.laws.specs.Bits.{bitsOf}
 use Rattle.search_theory.specs.Search.{highest, first, extend, add, addAll, setOf, beam, extensions, level, upto, run, closed, best}
 use Rattle.meaning.specs.Numerals.{split, isEnded, linesOf, isPositive, isNatural, isNumber, valueOf}
-use Rattle.meaning.specs.Book.{kindOfByte, kindOfLetter, isTextLine, isBookText, textLines, sizeOf, isWhole, cutLines, loadedLines, isOneBFirst, isInRange, isNotTooLong, isNoTripleTwice, linesRefusal, bookRefusal, loadedOf, readRefusal, entryOf, tripleOf, bookOfLines, bookOf, targetPartFrom, targetPart, partOf}
+use Rattle.meaning.specs.Book.{kindOfByte, kindOfLetter, isTextLine, isBookText, textLines, sizeOf, isWhole, cutLines, loadedLines, isOneBFirst, isInRange, isNotTooLong, orderOf, isNoTripleTwice, isNoShorterTwice, linesRefusal, bookRefusal, loadedOf, readRefusal, entryOf, isGram, gramOf, bookOfLines, bookOf, targetPartFrom, targetPart, partOf}
 use Rattle.meaning.specs.Direction.{isDirectionText, directionNumbers, numbersRefusal, directionRefusal, readDirectionRefusal, directionOf, wordCount}
-use Rattle.meaning.specs.Derivation.{tripleScore, wordsScore, isEntry, entryAt, wordsFromTo, fits, covers, jump, jumps, timesCovered, isValid, targetWords, scoreOf}
+use Rattle.meaning.specs.Derivation.{wordScore, pairScore, backedOff, tripleScore, wordsScore, isEntry, entryAt, wordsFromTo, fits, covers, jump, jumps, timesCovered, isValid, targetWords, scoreOf}
 use Rattle.meaning.specs.State.{start, wordsCovered, isEqual, isFree, cover, mayExtend, lastTwo, nextKey, gain, isBetter, keyOf}
 use Rattle.meaning.specs.Search.{fittingSteps, isWithin, entered, lastSet, answer}
 use Rattle.meaning.specs.Reply.{readBook, readBookList, readDirection, readDirectionList, checkBook, stepsRefusal, proposalRefusal, scoreProposal, beforeSearch, afterSearch, decodeRefusal, decode, decodedSteps, decodedWords, decodedStore}
@@ -15,9 +15,9 @@ unfolding
     bitsOf
     highest first extend add addAll setOf beam extensions level upto run closed best
     split isEnded linesOf isPositive isNatural isNumber valueOf
-    kindOfByte kindOfLetter isTextLine isBookText textLines sizeOf isWhole cutLines loadedLines isOneBFirst isInRange isNotTooLong isNoTripleTwice linesRefusal bookRefusal loadedOf readRefusal entryOf tripleOf bookOfLines bookOf targetPartFrom targetPart partOf
+    kindOfByte kindOfLetter isTextLine isBookText textLines sizeOf isWhole cutLines loadedLines isOneBFirst isInRange isNotTooLong orderOf isNoTripleTwice isNoShorterTwice linesRefusal bookRefusal loadedOf readRefusal entryOf isGram gramOf bookOfLines bookOf targetPartFrom targetPart partOf
     isDirectionText directionNumbers numbersRefusal directionRefusal readDirectionRefusal directionOf wordCount
-    tripleScore wordsScore isEntry entryAt wordsFromTo fits covers jump jumps timesCovered isValid targetWords scoreOf
+    wordScore pairScore backedOff tripleScore wordsScore isEntry entryAt wordsFromTo fits covers jump jumps timesCovered isValid targetWords scoreOf
     start wordsCovered isEqual isFree cover mayExtend lastTwo nextKey gain isBetter keyOf
     fittingSteps isWithin entered lastSet answer
     readBook readBookList readDirection readDirectionList checkBook stepsRefusal proposalRefusal scoreProposal beforeSearch afterSearch decodeRefusal decode decodedSteps decodedWords decodedStore

@@ -15,8 +15,8 @@ use Rattle.laws.specs.Integers.{Within}
 use Rattle.laws.specs.Lists.{all, isEmpty}
 use Rattle.laws.proofs.Tests.{by-test, both, is-false, clash}
 use Rattle.laws.proofs.Bounds.{within-mono}
-use Rattle.meaning.specs.Questions.{_unless_, _orelse_, within}
-use Rattle.meaning.specs.Book.{Form, InList, Book, bookOf, bookRefusal, linesRefusal, loadedLines, isWhole, isOneBFirst, isInRange, isNotTooLong, isNoTripleTwice}
+use Rattle.meaning.specs.Questions.{_unless_, _orelse_, within, isOfSearch, isOfSteps}
+use Rattle.meaning.specs.Book.{Form, InList, Book, bookOf, bookRefusal, linesRefusal, loadedLines, isWhole, isOneBFirst, isInRange, isNotTooLong, isNoTripleTwice, isNoShorterTwice}
 use Rattle.meaning.specs.Direction.{wordCount, isDirectionWord, directionRefusal, numbersRefusal}
 use Rattle.meaning.specs.Derivation.{IsDerivation, fits, jump, isValid, targetWords, scoreOf, comesBefore}
 use Rattle.meaning.specs.State.{Key, Hyp, start, isFree, nextKey, scoreBound, spreadBound}
@@ -24,7 +24,7 @@ use Rattle.meaning.specs.Search.{isOff, entered, lastSet, answer}
 use Rattle.meaning.specs.Reply.{refused, done, reply, writtenIf, Lent, stepsRefusal, proposalRefusal, scoreProposal, beforeSearch, afterSearch, decodeRefusal, answerScore, answerSteps, searchAnswer, decode, decodedSteps, decodedWords}
 use Rattle.meaning.specs.declared.Step.{Step}
 use Rattle.meaning.specs.declared.Answer.{Answer}
-use Rattle.meaning.proofs.Chains.{first-passes, rest-passes, test-passes, skip, chain-to, test-to, done-passes, done-is, refused-is, reply-refused}
+use Rattle.meaning.proofs.Chains.{first-passes, rest-passes, test-passes, skip, chain-ind, test-ind, done-passes, done-is, refused-is, reply-refused}
 use Rattle.meaning.proofs.Valid.{proposal-valid}
 use Rattle.meaning.proofs.Ranges.{loaded-ranged}
 use Rattle.meaning.proofs.Answers.{covered-to, entered-bound, answer-last, answer-derives, answer-none, answer-best, answer-first, answer-only, none-valid, last-valid, valid-bound}
@@ -32,46 +32,56 @@ use Rattle.meaning.proofs.Widths.{wide-entered, wide-answer, wide-last}
 
 -- ════ the questions that come before
 
-lines-to : (form : Form) (lines : List (List ℤ)) → linesRefusal form lines ≤ 6
+-- no question of a book, of a direction or of what is lent has the number of one that a search or a proposed step is asked
+record IsEarly (k : ℕ) : Type 0 where
+  not-of-search : isOfSearch k ≡ false
+  not-of-steps : isOfSteps k ≡ false
+
+early : (k : ℕ) (test : Bool) → isOfSearch k ≡ false → isOfSteps k ≡ false → IsEarly (k unless test)
+early k test a b = test-ind IsEarly k test (record { not-of-search = refl; not-of-steps = refl }) (record { not-of-search = a; not-of-steps = b })
+
+lines-early : (form : Form) (lines : List (List ℤ)) → IsEarly (linesRefusal form lines)
 unfolding linesRefusal
-lines-to form lines =
-    chain-to _ _ 6 (test-to 2 (all (isWhole form) lines) 6 (omega arith))
-    (chain-to _ _ 6 (test-to 3 (isOneBFirst lines) 6 (omega arith))
-    (chain-to _ _ 6 (test-to 4 (all isInRange lines) 6 (omega arith))
-    (chain-to _ _ 6 (test-to 5 (isNotTooLong lines) 6 (omega arith)) (test-to 6 (isNoTripleTwice lines) 6 (omega arith)))))
+lines-early form lines =
+    chain-ind IsEarly _ _ (early 2 (all (isWhole form) lines) refl refl)
+    (chain-ind IsEarly _ _ (early 3 (isOneBFirst lines) refl refl)
+    (chain-ind IsEarly _ _ (early 4 (all isInRange lines) refl refl)
+    (chain-ind IsEarly _ _ (early 5 (isNotTooLong lines) refl refl)
+    (chain-ind IsEarly _ _ (early 6 (isNoTripleTwice lines) refl refl) (early 20 (isNoShorterTwice lines) refl refl)))))
 
--- no question of a direction has a number above 10
-numbers-at-most : (numbers : List ℤ) → numbersRefusal numbers ≤ 10
+numbers-early : (numbers : List ℤ) → IsEarly (numbersRefusal numbers)
 unfolding numbersRefusal
-numbers-at-most numbers = chain-to _ _ 10 (test-to 9 (within 1 32 (length numbers)) 10 (omega arith)) (test-to 10 (all isDirectionWord numbers) 10 (omega arith))
+numbers-early numbers = chain-ind IsEarly _ _ (early 9 (within 1 32 (length numbers)) refl refl) (early 10 (all isDirectionWord numbers) refl refl)
 
--- those of proposed steps have 16 or more
-steps-from : (book : Book) (direction : List ℕ) (k : Key) (steps : List Step) → (stepsRefusal book direction k steps ≡ 0) ⊎ (16 ≤ stepsRefusal book direction k steps)
+-- those of proposed steps have a number of their own
+steps-from : (book : Book) (direction : List ℕ) (k : Key) (steps : List Step) → (stepsRefusal book direction k steps ≡ 0) ⊎ (isOfSteps (stepsRefusal book direction k steps) ≡ true)
 unfolding stepsRefusal
 steps-from book direction k [] = asks (all (λ bit. bit) (k .covered))
   where
-    asks : (t : Bool) → (19 unless t ≡ 0) ⊎ (16 ≤ (19 unless t))
+    asks : (t : Bool) → (19 unless t ≡ 0) ⊎ (isOfSteps (19 unless t) ≡ true)
     asks true = inl refl
-    asks false = inr (omega arith)
+    asks false = inr refl
 steps-from book direction k (s ∷ ss) =
     asks (fits book direction s) (isFree s 1 (k .covered)) (leb (jump (k .r) s) (book .limit)) (stepsRefusal book direction (nextKey book k s) ss) (steps-from book direction (nextKey book k s) ss)
   where
-    asks : (f g j : Bool) (m : ℕ) → (m ≡ 0) ⊎ (16 ≤ m) → ((16 unless f orelse 17 unless g orelse 18 unless j orelse m) ≡ 0) ⊎ (16 ≤ (16 unless f orelse 17 unless g orelse 18 unless j orelse m))
+    asks : (f g j : Bool) (m : ℕ) → (m ≡ 0) ⊎ (isOfSteps m ≡ true) → ((16 unless f orelse 17 unless g orelse 18 unless j orelse m) ≡ 0) ⊎ (isOfSteps (16 unless f orelse 17 unless g orelse 18 unless j orelse m) ≡ true)
     asks true true true m r = r
-    asks true true false m r = inr (omega arith)
-    asks true false j m r = inr (omega arith)
-    asks false g j m r = inr (omega arith)
+    asks true true false m r = inr refl
+    asks true false j m r = inr refl
+    asks false g j m r = inr refl
 
--- no question before the search has a number above 12
-before-to : (loaded : List ℤ) (direction : List ℕ) (width : ℤ) (lent : Lent) → beforeSearch loaded direction width lent ≤ 12
+-- no question before the search has the number of one that a search answers
+before-early : (loaded : List ℤ) (direction : List ℕ) (width : ℤ) (lent : Lent) → IsEarly (beforeSearch loaded direction width lent)
 unfolding beforeSearch bookRefusal directionRefusal
-before-to loaded direction width lent =
-    let book-to : linesRefusal InList (loadedLines loaded) ≤ 12 = (let h = lines-to InList (loadedLines loaded) in omega arith) in
-    let direction-to-12 : numbersRefusal (map pos direction) ≤ 12 = (let h = numbers-at-most (map pos direction) in omega arith) in
-    chain-to _ _ 12 book-to
-    (chain-to _ _ 12 direction-to-12
-    (chain-to _ _ 12 (test-to 11 (leZ (negsuc 0) width) 12 (omega arith))
-    (test-to 12 (leb (wordCount direction) (lent .steps) && leb (8 * wordCount direction) (lent .words)) 12 (omega arith))))
+before-early loaded direction width lent =
+    chain-ind IsEarly _ _ (lines-early InList (loadedLines loaded))
+    (chain-ind IsEarly _ _ (numbers-early (map pos direction))
+    (chain-ind IsEarly _ _ (early 11 (leZ (negsuc 0) width) refl refl)
+    (early 12 (leb (wordCount direction) (lent .steps) && leb (8 * wordCount direction) (lent .words)) refl refl)))
+
+-- so a refusal that a search gives is not theirs
+before-not : (loaded : List ℤ) (direction : List ℕ) (width : ℤ) (lent : Lent) (k : ℕ) → isOfSearch k ≡ true → beforeSearch loaded direction width lent ≡ k → ⊥
+before-not loaded direction width lent k t e = clash t (subst (λ (j : ℕ). isOfSearch j ≡ false) e (before-early loaded direction width lent .not-of-search))
 
 -- there are at most 32 numbers where 9 passes
 pub numbers-to : (numbers : List ℤ) → numbersRefusal numbers ≡ 0 → length numbers ≤ 32
@@ -90,11 +100,11 @@ abbrev after : Bool → Bool → Bool → ℕ
 after off fits empty = 13 unless fits orelse 14 unless (not off || not empty) orelse 15 unless not empty
 
 -- these are none or 13 to 15
-after-from : (off fits empty : Bool) → after off fits empty ≤ 12 → after off fits empty ≡ 0
-after-from off false empty h = absurd (omega arith)
-after-from true true true h = absurd (omega arith)
+after-from : (off fits empty : Bool) → isOfSearch (after off fits empty) ≡ false → after off fits empty ≡ 0
+after-from off false empty h = absurd (true≢false h)
+after-from true true true h = absurd (true≢false h)
 after-from true true false h = refl
-after-from false true true h = absurd (omega arith)
+after-from false true true h = absurd (true≢false h)
 after-from false true false h = refl
 
 -- two searches that enter the same states and have the same answer differ at most in 15 for 14
@@ -143,28 +153,27 @@ module _ (loaded : List ℤ) (direction : List ℕ) where
   unfolding scoreProposal proposalRefusal
   valid-scored b d steps v = rw (b, d, proposal-valid book direction steps .1 v)
 
-  -- a refusal from 16 on says that it is not valid: the book and the direction passed
-  pub refused-invalid : (steps : List Step) (k : ℕ) → 16 ≤ k → scoreProposal loaded direction steps ≡ refused k → isValid book direction steps ≡ false
+  -- a refusal from 16 to 19 says that it is not valid: the book and the direction passed
+  pub refused-invalid : (steps : List Step) (k : ℕ) → isOfSteps k ≡ true → scoreProposal loaded direction steps ≡ refused k → isValid book direction steps ≡ false
   unfolding scoreProposal proposalRefusal bookRefusal directionRefusal
   refused-invalid steps k h e =
       let p : proposalRefusal loaded direction steps ≡ k = refused-is (proposalRefusal loaded direction steps) k (scoreOf book steps) e in
-      let b : bookRefusal loaded ≤ 6 = lines-to InList (loadedLines loaded) in
-      let d : directionRefusal direction ≤ 10 = numbers-at-most (map pos direction) in
-      let s = skip (directionRefusal direction) _ k (λ z. omega arith) (skip (bookRefusal loaded) _ k (λ z. omega arith) p) in
-      is-false (λ v. let z = proposal-valid book direction steps .1 v in omega arith)
+      let not-early : (j : ℕ) → IsEarly j → j ≡ k → ⊥ = (λ j n z. clash h (subst (λ (i : ℕ). isOfSteps i ≡ false) z (n .not-of-steps))) in
+      let s = skip (directionRefusal direction) _ k (not-early _ (numbers-early (map pos direction))) (skip (bookRefusal loaded) _ k (not-early _ (lines-early InList (loadedLines loaded))) p) in
+      is-false (λ v. clash h (ap isOfSteps (sym s ∙ proposal-valid book direction steps .1 v)))
 
   -- and one that is not valid gets such a refusal, where the book and the direction pass
   pub invalid-refused : bookRefusal loaded ≡ 0 → directionRefusal direction ≡ 0 → (steps : List Step) → isValid book direction steps ≡ false
-      → (k : ℕ) × (16 ≤ k) × (scoreProposal loaded direction steps ≡ refused k)
+      → (k : ℕ) × (isOfSteps k ≡ true) × (scoreProposal loaded direction steps ≡ refused k)
   unfolding scoreProposal proposalRefusal
   invalid-refused b d steps v = rw (b, d) (by (stepsRefusal book direction (start (wordCount direction)) steps) (steps-from book direction (start (wordCount direction)) steps) (λ z. clash (proposal-valid book direction steps .0 z) v))
     where
-      by : (j : ℕ) → (j ≡ 0) ⊎ (16 ≤ j) → (j ≡ 0 → ⊥) → (k : ℕ) × (16 ≤ k) × (reply j (scoreOf book steps) ≡ refused k)
+      by : (j : ℕ) → (j ≡ 0) ⊎ (isOfSteps j ≡ true) → (j ≡ 0 → ⊥) → (k : ℕ) × (isOfSteps k ≡ true) × (reply j (scoreOf book steps) ≡ refused k)
       by zero r n = absurd (n refl)
       by (suc j) (inl z) n = absurd (n z)
       by (suc j) (inr h) n = (suc j, h, refl)
 
-  -- ════ "No score passes .. 298,240,000 on either side of 0.": neither a state's nor a valid derivation's
+  -- ════ "No score passes ..", "the bound becomes 810,240,000", on either side of 0: neither a state's nor a valid derivation's
 
   module _ (b : bookRefusal loaded ≡ 0) (d : directionRefusal direction ≡ 0) (width : ℤ) where
     pub state-bound : (q : Hyp) → List·Memᴰ q (entered book direction width) → Within scoreBound (q .score)
@@ -260,7 +269,7 @@ module _ (loaded : List ℤ) (direction : List ℕ) where
     pub decode-states : (a : Answer) → decode loaded direction width lent ≡ done a → a .states ≡ length (entered book direction width)
     decode-states a e = answered a e .states-are
 
-    -- "No score passes .. 298,240,000 on either side of 0."
+    -- "the bound becomes 810,240,000"
     pub decode-bound : (a : Answer) → decode loaded direction width lent ≡ done a → Within scoreBound (a .score)
     unfolding beforeSearch
     decode-bound a e =
@@ -298,27 +307,27 @@ module _ (loaded : List ℤ) (direction : List ℕ) where
       where
         by-zero : (j : ℕ) → beforeSearch loaded direction width lent ≡ j → j orelse afterSearch book direction width lent ≡ 13 → ⊥
         by-zero zero z k = let l = decode-full z .0 e in omega arith
-        by-zero (suc j) z k = let t = before-to loaded direction width lent in omega arith
+        by-zero (suc j) z k = before-not loaded direction width lent 13 refl (z ∙ k)
 
-    -- a refusal up to 12 is that of a question before the search ..
-    pub refused-early : (k : ℕ) → k ≤ 12 → decode loaded direction width lent ≡ refused k → beforeSearch loaded direction width lent ≡ k
+    -- a refusal other than 13 to 15 is that of a question before the search ..
+    pub refused-early : (k : ℕ) → isOfSearch k ≡ false → decode loaded direction width lent ≡ refused k → beforeSearch loaded direction width lent ≡ k
     unfolding decode decodeRefusal afterSearch
     refused-early k h e =
         by (beforeSearch loaded direction width lent) _ (after-from (isOff width) (leb (length (entered book direction width)) (lent .store / 8)) (isEmpty (lastSet book direction width)))
         (refused-is (decodeRefusal loaded direction width lent) k _ e)
       where
-        by : (j m : ℕ) → (m ≤ 12 → m ≡ 0) → j orelse m ≡ k → j ≡ k
-        by zero m f p = sym (f (omega arith)) ∙ p
+        by : (j m : ℕ) → (isOfSearch m ≡ false → m ≡ 0) → j orelse m ≡ k → j ≡ k
+        by zero m f p = sym (f (ap isOfSearch p ∙ h)) ∙ p
         by (suc j) m f p = p
 
-    -- .. and one from 13 on comes after it
-    pub refused-late : (k : ℕ) → 12 < k → decode loaded direction width lent ≡ refused k → beforeSearch loaded direction width lent ≡ 0
+    -- .. and one of 13 to 15 comes after it
+    pub refused-late : (k : ℕ) → isOfSearch k ≡ true → decode loaded direction width lent ≡ refused k → beforeSearch loaded direction width lent ≡ 0
     unfolding decode decodeRefusal
-    refused-late k h e = by (beforeSearch loaded direction width lent) (before-to loaded direction width lent) (refused-is (decodeRefusal loaded direction width lent) k _ e)
+    refused-late k h e = by (beforeSearch loaded direction width lent) (before-not loaded direction width lent k h) (refused-is (decodeRefusal loaded direction width lent) k _ e)
       where
-        by : (j : ℕ) → j ≤ 12 → j orelse afterSearch book direction width lent ≡ k → j ≡ 0
+        by : (j : ℕ) → (j ≡ k → ⊥) → j orelse afterSearch book direction width lent ≡ k → j ≡ 0
         by zero g p = refl
-        by (suc j) g p = absurd (omega arith)
+        by (suc j) g p = absurd (g p)
 
     -- where the store holds the states entered, there is an answer, or 14, or with a width 15
     pub answer-or-none : beforeSearch loaded direction width lent ≡ 0 → length (entered book direction width) ≤ lent .store / 8
@@ -336,7 +345,7 @@ module _ (loaded : List ℤ) (direction : List ℕ) where
     pub decode-emptied : decode loaded direction width lent ≡ refused 15 → lastSet book direction width ≡ []
     unfolding decode decodeRefusal afterSearch
     decode-emptied e =
-        let k = skip (beforeSearch loaded direction width lent) _ 15 (λ z. let t = before-to loaded direction width lent in omega arith) (refused-is (decodeRefusal loaded direction width lent) 15 _ e) in
+        let k = skip (beforeSearch loaded direction width lent) _ 15 (before-not loaded direction width lent 15 refl) (refused-is (decodeRefusal loaded direction width lent) 15 _ e) in
         by (isOff width) (leb (length (entered book direction width)) (lent .store / 8)) (lastSet book direction width) k
       where
         by : (o s : Bool) (l : List Hyp) → after o s (isEmpty l) ≡ 15 → l ≡ []
@@ -377,13 +386,17 @@ module _ (loaded : List ℤ) (direction : List ℕ) where
     unfolding decode decodeRefusal afterSearch
     decode-none e =
         let k = refused-is (decodeRefusal loaded direction (negsuc 0) lent) 14 _ e in
-        let a = skip (beforeSearch loaded direction (negsuc 0) lent) _ 14 (λ z. let t = before-to loaded direction (negsuc 0) lent in omega arith) k in
-        let c = skip (13 unless leb (length (entered book direction (negsuc 0))) (lent .store / 8)) _ 14 (λ z. let t = test-to 13 (leb (length (entered book direction (negsuc 0))) (lent .store / 8)) 13 (omega arith) in omega arith) a in
+        let a = skip (beforeSearch loaded direction (negsuc 0) lent) _ 14 (before-not loaded direction (negsuc 0) lent 14 refl) k in
+        let c = skip (13 unless leb (length (entered book direction (negsuc 0))) (lent .store / 8)) _ 14 (not-13 (leb (length (entered book direction (negsuc 0))) (lent .store / 8))) a in
         none-valid book direction (answer-none book direction (negsuc 0) .1 (empty-is (lastSet book direction (negsuc 0)) (was-empty (isEmpty (lastSet book direction (negsuc 0))) c)))
       where
         was-empty : (m : Bool) → 14 unless not m orelse 15 unless not m ≡ 14 → m ≡ true
         was-empty true h = refl
         was-empty false h = absurd (omega arith)
+
+        not-13 : (test : Bool) → 13 unless test ≡ 14 → ⊥
+        not-13 true h = omega arith
+        not-13 false h = omega arith
 
     -- and where no valid derivation exists, 14 is given, once the questions before it pass
     pub none-decode : beforeSearch loaded direction (negsuc 0) lent ≡ 0 → length (entered book direction (negsuc 0)) ≤ lent .store / 8
@@ -406,8 +419,7 @@ module _ (loaded : List ℤ) (direction : List ℕ) where
   unfolding decode decodeRefusal afterSearch
   width-never-14 β lent e =
       let k = refused-is (decodeRefusal loaded direction (pos β) lent) 14 _ e in
-      let t = before-to loaded direction (pos β) lent in
-      let a = skip (beforeSearch loaded direction (pos β) lent) _ 14 (λ z. omega arith) k in
+      let a = skip (beforeSearch loaded direction (pos β) lent) _ 14 (before-not loaded direction (pos β) lent 14 refl) k in
       two (leb (length (entered book direction (pos β))) (lent .store / 8)) (isEmpty (lastSet book direction (pos β))) a
     where
       two : (s m : Bool) → 13 unless s orelse 15 unless not m ≡ 14 → ⊥
@@ -415,7 +427,7 @@ module _ (loaded : List ℤ) (direction : List ℕ) where
       two true false h = omega arith
       two false m h = omega arith
 
-  -- "a width of 596,480,000, which, but for 15 in place of 14, answers as −1 does": it, and every larger one
+  -- "the width that prunes nothing", 1,620,480,000, "which, but for 15 in place of 14, answers as −1 does": it, and every larger one
   module _ (β : ℕ) (lent : Lent) (wide : spreadBound ≤ β) where
     -- the search arrives at the same, once the questions before it pass
     wide-same : beforeSearch loaded direction (negsuc 0) lent ≡ 0

@@ -152,7 +152,7 @@ module _ (book : Book) (direction : List ℕ) (width : ℤ) where
       ∙ allowed-pass (start (wordCount direction)) steps a
       (all-ones (after (search book direction width) (start (wordCount direction)) steps .covered) .1 (e ∙ sym start-length ∙ sym (after-length (start (wordCount direction)) steps)))
 
-  -- ════ the bound: |score| ≤ 9,320,000 for each covered word
+  -- ════ the bound: |score| ≤ 25,320,000 for each covered word
 
   module _ (R : Ranged book) where
     pub score-within : (q : St (search book direction width)) → Legal (search book direction width) q → Within (gainBound * wordsCovered (q .key)) (q .score)

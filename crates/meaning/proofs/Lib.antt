@@ -1,5 +1,6 @@
 pub mod Computing
 pub mod Drawers
+pub mod Backing
 pub mod Refusals
 pub mod Chains
 pub mod Filled
@@ -9,6 +10,7 @@ pub mod Order
 pub mod Steps
 pub mod Cover
 pub mod Ranges
+pub mod Base
 pub mod Table
 pub mod Sizes
 pub mod Loaded

@@ -1,7 +1,8 @@
 -- What a book that 2 to 6 pass holds: its numbers are in their ranges, and a P line has its words and its score where they should be.
-use Prim.Native.Nat.{ℕ, _+_, _-_, _≤_}
+use Prim.Native.Nat.{ℕ, zero, suc, _+_, _-_, _≤_, _<_}
 use native.Mathlib.Omega.{arith}
 use mathlib.Core.Path.{_≡_, sym, _∙_, subst}
+use mathlib.Core.Logic.{_⊎_, inl, inr, ⊎-elim}
 use mathlib.Core.Bool.{true, not, cond, _&&_, true≢false, false≢true}
 use mathlib.Core.List.{List, [], _∷_, map, dropLast, List·Memᴰ, Memᴰ·of-map}
 use borrow.Author.Tests.{eqb-true, ltb-true, ltb-false}
@@ -11,13 +12,13 @@ use lib.Signed.{leZ}
 use lib.ListN.{length, getD, take, drop, length-take, length-drop, length-map, List·getD-eq-default}
 use Rattle.laws.specs.Integers.{Within, eqℤ, natOf}
 use Rattle.laws.specs.Lists.{all, keep, isEmpty}
-use Rattle.laws.proofs.Tests.{by-test, both}
+use Rattle.laws.proofs.Tests.{by-test, both, both-of}
 use Rattle.laws.proofs.Linear.{signed, num}
 use Rattle.laws.proofs.Order.{yes-≡}
 use Rattle.laws.proofs.Lists.{all-mem, keep-mem, getD-mem}
 use Rattle.meaning.specs.Questions.{_unless_, withinℤ}
-use Rattle.meaning.specs.Bounds.{scoreMost, penaltyMost}
-use Rattle.meaning.specs.Book.{Form, InList, numberAt, naturalAt, isB, isP, isT, isPhraseLength, sizeOf, isWhole, isOneBFirst, isScore, isPhraseWord, isHistoryWord, isLastWord, rangesB, rangesP, rangesT, isInRange, isNotTooLong, isNoTripleTwice, linesRefusal, bookRefusal, loadedLines, wordsAt, Entry, Triple, Book, entryOf, tripleOf, bookOfLines, bookOf}
+use Rattle.meaning.specs.Bounds.{wordMost, scoreMost, penaltyMost}
+use Rattle.meaning.specs.Book.{Form, InList, numberAt, naturalAt, isB, isP, isT, isU, isD, isPhraseLength, sizeOf, isWhole, isOneBFirst, isScore, isPhraseWord, isHistoryWord, isLastWord, isLoneWord, isWeight, rangesB, rangesP, rangesT, rangesU, rangesD, isInRange, isNotTooLong, isNoTripleTwice, isNoShorterTwice, linesRefusal, bookRefusal, loadedLines, wordsAt, Entry, Gram, Book, entryOf, orderOf, isGram, gramOf, bookOfLines, bookOf}
 use Rattle.meaning.specs.Derivation.{noEntry, entryAt}
 use Rattle.meaning.proofs.Chains.{first-passes, rest-passes, test-passes}
 
@@ -28,7 +29,8 @@ pub record Passed (form : Form) (lines : List (List ℤ)) : Type 0 where
   pub one-b : isOneBFirst lines ≡ true
   pub ranged : all isInRange lines ≡ true
   pub short : isNotTooLong lines ≡ true
-  pub different : isNoTripleTwice lines ≡ true
+  pub no-triple-twice : isNoTripleTwice lines ≡ true
+  pub no-shorter-twice : isNoShorterTwice lines ≡ true
 
 pub lines-passed : (form : Form) (lines : List (List ℤ)) → linesRefusal form lines ≡ 0 → Passed form lines
 unfolding linesRefusal
@@ -37,12 +39,14 @@ lines-passed form lines e =
     let after3 = rest-passes (3 unless isOneBFirst lines) _ after2 in
     let after4 = rest-passes (4 unless all isInRange lines) _ after3 in
     let after5 = rest-passes (5 unless isNotTooLong lines) _ after4 in
+    let after6 = rest-passes (6 unless isNoTripleTwice lines) _ after5 in
     record {
       whole = test-passes 1 _ (first-passes (2 unless all (isWhole form) lines) _ e);
       one-b = test-passes 2 _ (first-passes (3 unless isOneBFirst lines) _ after2);
       ranged = test-passes 3 _ (first-passes (4 unless all isInRange lines) _ after3);
       short = test-passes 4 _ (first-passes (5 unless isNotTooLong lines) _ after4);
-      different = test-passes 5 _ after5;
+      no-triple-twice = test-passes 5 _ (first-passes (6 unless isNoTripleTwice lines) _ after5);
+      no-shorter-twice = test-passes 19 _ after6;
     }
 
 -- ════ ranges of numbers
@@ -61,7 +65,7 @@ nat-low : (z : ℤ) (n : ℕ) → leZ (pos n) z ≡ true → n ≤ natOf z
 nat-low (pos m) n e = omega (arith, signed)
 nat-low (negsuc m) n e = absurd (false≢true e)
 
--- ════ a B line, a P line, a T line
+-- ════ a B line, a P line, a line of an n-gram
 
 kind-is : (line : List ℤ) (k : ℕ) → eqℤ (numberAt line 0) (pos k) ≡ true → numberAt line 0 ≡ pos k
 kind-is line k e = yes-≡ (numberAt line 0) (pos k) e
@@ -129,12 +133,101 @@ p-line form line p w e =
       score-within = subst (λ (j : ℕ). Within scoreMost (numberAt line j)) at (score-within (numberAt line (length line - 1)) (h .1));
     }
 
-pub t-line : (line : List ℤ) → isT line ≡ true → isInRange line ≡ true → Within scoreMost (numberAt line 4)
-unfolding isInRange
-t-line line t e =
+-- its n words, its score and its weight; a T line ends before the weight, which is then 0
+pub record GramLine (line : List ℤ) : Type 0 where
+  pub order-from : 1 ≤ orderOf line
+  pub order-to : orderOf line ≤ 3
+  pub long : orderOf line + 2 ≤ length line
+  pub words : (j : ℕ) → j < orderOf line → isLoneWord (numberAt line (suc j)) ≡ true
+  pub score : isScore (numberAt line (1 + orderOf line)) ≡ true
+  pub weight : isScore (numberAt line (2 + orderOf line)) ≡ true
+
+-- the line of an n-gram is a T, a U or a D line
+gram-kind : (line : List ℤ) → isGram line ≡ true → (isT line ≡ true) ⊎ ((isU line ≡ true) ⊎ (isD line ≡ true))
+unfolding isGram orderOf
+gram-kind line g =
+    by-test (isT line) inl
+    (λ t. by-test (isU line) (λ u. inr (inl u))
+    (λ u. by-test (isD line) (λ d. inr (inr d))
+    (λ d. by-test (isB line) (λ b. absurd (false≢true (rw b at g)))
+    (λ b. by-test (isP line) (λ p. absurd (false≢true (rw (b, p) at g))) (λ p. absurd (false≢true (rw (b, p, t, u, d) at g)))))))
+
+-- a last word is one that may stand alone
+last-lone : (z : ℤ) → isLastWord z ≡ true → isLoneWord z ≡ true
+last-lone z e = let h = both (leZ (pos 1) z) (leZ z (pos wordMost)) e in let f = h .0 in let g : leZ (pos 0) z ≡ true = omega (arith, signed) in both-of g (h .1)
+
+-- a fact for each word of a row
+one-word : (f : ℕ → ℤ) → isLoneWord (f 1) ≡ true → (j : ℕ) → j < 1 → isLoneWord (f (suc j)) ≡ true
+one-word f a zero h = a
+one-word f a (suc j) h = absurd (omega arith)
+
+two-words : (f : ℕ → ℤ) → isLoneWord (f 1) ≡ true → isLoneWord (f 2) ≡ true → (j : ℕ) → j < 2 → isLoneWord (f (suc j)) ≡ true
+two-words f a b zero h = a
+two-words f a b (suc j) h = one-word (λ k. f (suc k)) b j (omega arith)
+
+three-words : (f : ℕ → ℤ) → isLoneWord (f 1) ≡ true → isLoneWord (f 2) ≡ true → isLoneWord (f 3) ≡ true → (j : ℕ) → j < 3 → isLoneWord (f (suc j)) ≡ true
+three-words f a b c zero h = a
+three-words f a b c (suc j) h = two-words (λ k. f (suc k)) b c j (omega arith)
+
+t-line : (form : Form) (line : List ℤ) → isT line ≡ true → isWhole form line ≡ true → isInRange line ≡ true → GramLine line
+unfolding isWhole sizeOf isInRange orderOf
+t-line form line t w e =
     let k : numberAt line 0 ≡ pos 3 = kind-is line 3 t in
     let r : rangesT line ≡ true = rw k at e in
-    score-within (numberAt line 4) (both (isHistoryWord (numberAt line 1) && isHistoryWord (numberAt line 2) && isLastWord (numberAt line 3)) (isScore (numberAt line 4)) r .1)
+    let l : length line ≡ 5 = eqb-true _ _ (rw k at (both (not (isEmpty line)) _ w .1)) in
+    let h = both (isHistoryWord (numberAt line 1) && isHistoryWord (numberAt line 2) && isLastWord (numberAt line 3)) (isScore (numberAt line 4)) r in
+    let y = both (isHistoryWord (numberAt line 1) && isHistoryWord (numberAt line 2)) (isLastWord (numberAt line 3)) (h .0) in
+    let v = both (isHistoryWord (numberAt line 1)) (isHistoryWord (numberAt line 2)) (y .0) in
+    let end : numberAt line 5 ≡ pos 0 = List·getD-eq-default line (pos 0) (omega arith) in
+    let o : orderOf line ≡ 3 = rw k in
+    record {
+      order-from = omega arith;
+      order-to = omega arith;
+      long = omega arith;
+      words = rw o (three-words (numberAt line) (v .0) (v .1) (last-lone (numberAt line 3) (y .1)));
+      score = rw o (h .1);
+      weight = rw (o, end);
+    }
+
+u-line : (form : Form) (line : List ℤ) → isU line ≡ true → isWhole form line ≡ true → isInRange line ≡ true → GramLine line
+unfolding isWhole sizeOf isInRange orderOf
+u-line form line t w e =
+    let k : numberAt line 0 ≡ pos 4 = kind-is line 4 t in
+    let r : rangesU line ≡ true = rw k at e in
+    let l : length line ≡ 4 = eqb-true _ _ (rw k at (both (not (isEmpty line)) _ w .1)) in
+    let h = both (isLoneWord (numberAt line 1) && isScore (numberAt line 2)) (isWeight (numberAt line 3)) r in
+    let y = both (isLoneWord (numberAt line 1)) (isScore (numberAt line 2)) (h .0) in
+    let o : orderOf line ≡ 1 = rw k in
+    record {
+      order-from = omega arith;
+      order-to = omega arith;
+      long = omega arith;
+      words = rw o (one-word (numberAt line) (y .0));
+      score = rw o (y .1);
+      weight = rw o (h .1);
+    }
+
+d-line : (form : Form) (line : List ℤ) → isD line ≡ true → isWhole form line ≡ true → isInRange line ≡ true → GramLine line
+unfolding isWhole sizeOf isInRange orderOf
+d-line form line t w e =
+    let k : numberAt line 0 ≡ pos 5 = kind-is line 5 t in
+    let r : rangesD line ≡ true = rw k at e in
+    let l : length line ≡ 5 = eqb-true _ _ (rw k at (both (not (isEmpty line)) _ w .1)) in
+    let h = both (isHistoryWord (numberAt line 1) && isLastWord (numberAt line 2) && isScore (numberAt line 3)) (isWeight (numberAt line 4)) r in
+    let s = both (isHistoryWord (numberAt line 1) && isLastWord (numberAt line 2)) (isScore (numberAt line 3)) (h .0) in
+    let y = both (isHistoryWord (numberAt line 1)) (isLastWord (numberAt line 2)) (s .0) in
+    let o : orderOf line ≡ 2 = rw k in
+    record {
+      order-from = omega arith;
+      order-to = omega arith;
+      long = omega arith;
+      words = rw o (two-words (numberAt line) (y .0) (last-lone (numberAt line 2) (y .1)));
+      score = rw o (s .1);
+      weight = rw o (h .1);
+    }
+
+pub gram-line : (form : Form) (line : List ℤ) → isGram line ≡ true → isWhole form line ≡ true → isInRange line ≡ true → GramLine line
+gram-line form line g w e = ⊎-elim (λ t. t-line form line t w e) (⊎-elim (λ u. u-line form line u w e) (λ d. d-line form line d w e)) (gram-kind line g)
 
 -- as many words as asked for, where the line has them
 words-long : (line : List ℤ) (from many : ℕ) → from + many ≤ length line → length (wordsAt line from many) ≡ many
@@ -148,7 +241,7 @@ pub record Ranged (book : Book) : Type 0 where
   pub unseen-within : Within scoreMost (book .unseen)
   pub g-within : (k : ℕ) → Within scoreMost (entryAt book k .g)
   pub target-to : (k : ℕ) → length (entryAt book k .target) ≤ 8
-  pub triple-within : (t : Triple) → List·Memᴰ t (book .triples) → Within scoreMost (t .s)
+  pub gram-within : (g : Gram) → List·Memᴰ g (book .grams) → Within scoreMost (g .s) × Within scoreMost (g .k)
 
 -- what holds of the lines' entries and of no entry holds of entry k
 entry-ind : (Q : Entry → Type 0) (lines : List (List ℤ)) → Q noEntry → ((line : List ℤ) → List·Memᴰ line lines → isP line ≡ true → Q (entryOf line))
@@ -162,7 +255,7 @@ entry-ind Q lines none each k =
     (λ f. subst Q (sym (List·getD-eq-default (map entryOf (keep isP lines)) noEntry (ltb-false k _ f))) none)
 
 pub book-ranged : (form : Form) (lines : List (List ℤ)) → Passed form lines → Ranged (bookOfLines lines)
-unfolding bookOfLines entryAt entryOf tripleOf isOneBFirst
+unfolding bookOfLines entryAt entryOf gramOf isOneBFirst
 book-ranged form [] p = absurd (false≢true (p .one-b))
 book-ranged form (first ∷ lines) p =
     let b = b-line first (both (isB first) _ (p .one-b) .0) (both (isInRange first) _ (p .ranged) .0) in
@@ -175,10 +268,11 @@ book-ranged form (first ∷ lines) p =
           (λ line m t. let l = line-of line m t in
           let z : length (wordsAt line (3 + naturalAt line 1) (naturalAt line 2)) ≡ naturalAt line 2 = words-long line (3 + naturalAt line 1) (naturalAt line 2) (let n = l .long in omega arith) in
           let q = l .b-to in omega arith) (k - 1);
-      triple-within = λ t m.
-          let o = Memᴰ·of-map tripleOf (keep isT (first ∷ lines)) m in
-          let q = keep-mem isT (first ∷ lines) (o .1) in
-          subst (λ (x : Triple). Within scoreMost (x .s)) (o .2) (t-line (o .0) (q .1) (all-mem isInRange (first ∷ lines) (p .ranged) (o .0) (q .0)));
+      gram-within = λ t m.
+          let o = Memᴰ·of-map gramOf (keep isGram (first ∷ lines)) m in
+          let q = keep-mem isGram (first ∷ lines) (o .1) in
+          let l = gram-line form (o .0) (q .1) (all-mem (isWhole form) (first ∷ lines) (p .whole) (o .0) (q .0)) (all-mem isInRange (first ∷ lines) (p .ranged) (o .0) (q .0)) in
+          subst (λ (x : Gram). Within scoreMost (x .s) × Within scoreMost (x .k)) (o .2) (score-within _ (l .score), score-within _ (l .weight));
     }
   where
     line-of : (line : List ℤ) → List·Memᴰ line (first ∷ lines) → isP line ≡ true → PLine line

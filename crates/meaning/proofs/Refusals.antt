@@ -5,7 +5,7 @@ use mathlib.Core.Bool.{Bool, true}
 use mathlib.Core.List.{List, [], _∷_, _++_}
 use lib.Dec.{eqb}
 use lib.IntN.{ℤ, pos, negsuc}
-use lib.ListN.{replicate, take, length}
+use lib.ListN.{replicate, take, length, set}
 use Rattle.laws.specs.Lists.{all}
 use Rattle.meaning.specs.Book.{InText, linesRefusal, bookRefusal, readRefusal, targetPart, partOf}
 use Rattle.meaning.specs.Direction.{directionRefusal, readDirectionRefusal}
@@ -97,6 +97,73 @@ pub texts-agree : all agrees texts ≡ true
 unfolding computing texts bytes bookText
 texts-agree = refl
 
+-- the same with U and D lines
+abbrev pub U : List ℕ
+U = bytes "U,101,-40,5\n"
+
+abbrev pub D : List ℕ
+D = bytes "D,101,102,-60,-7\n"
+
+unfoldable pub shorterTexts : List Row
+shorterTexts =
+    -- in any order, before and behind the others; a word and a pair of one word; pairs that share one of their words
+    (reads (bookText ++ U ++ D), 0)
+    ∷ (reads (B ++ D ++ U ++ bytes "P,1,1,11,101,-20\n"), 0)
+    ∷ (reads (B ++ bytes "D,101,101,0,0\n" ++ U), 0)
+    ∷ (reads (B ++ D ++ bytes "D,102,101,-60,-7\n" ++ bytes "D,101,101,-60,-7\n" ++ bytes "D,102,102,-60,-7\n"), 0)
+    -- 1: another letter; a small one; two letters; no number
+    ∷ (reads (B ++ bytes "V,101,-40,5\n"), 1)
+    ∷ (reads (B ++ bytes "E,101,102,-60,-7\n"), 1)
+    ∷ (reads (B ++ bytes "u,101,-40,5\n"), 1)
+    ∷ (reads (B ++ bytes "d,101,102,-60,-7\n"), 1)
+    ∷ (reads (B ++ bytes "DU,101,102,-60,-7\n"), 1)
+    ∷ (reads (B ++ bytes "D\n"), 1)
+    -- 2: too few fields; too many; those of the other kind. Each before 3
+    ∷ (reads (B ++ bytes "U,101,-40\n"), 2)
+    ∷ (reads (B ++ bytes "U,101,-40,5,0\n"), 2)
+    ∷ (reads (B ++ bytes "D,101,102,-60\n"), 2)
+    ∷ (reads (B ++ bytes "D,101,102,-60,-7,0\n"), 2)
+    ∷ (reads (B ++ bytes "U,101,102,-60,-7\n"), 2)
+    ∷ (reads (bytes "D,101,-40,5\n" ++ B), 2)
+    -- 3, before 4
+    ∷ (reads (U ++ B), 3)
+    ∷ (reads (bytes "D,101,0,-60,-7\n" ++ B), 3)
+    -- 4, of a U line: its word, its score, its weight
+    ∷ (reads (B ++ bytes "U,-1,-40,5\n"), 4)
+    ∷ (reads (B ++ bytes "U,65536,-40,5\n"), 4)
+    ∷ (reads (B ++ bytes "U,101,-1000001,5\n"), 4)
+    ∷ (reads (B ++ bytes "U,101,1000001,5\n"), 4)
+    ∷ (reads (B ++ bytes "U,101,-40,-1000001\n"), 4)
+    ∷ (reads (B ++ bytes "U,101,-40,1000001\n"), 4)
+    ∷ (reads (B ++ bytes "U,0,-1000000,1000000\n" ++ bytes "U,65535,1000000,-1000000\n"), 0)
+    -- 4, of a D line: w, y, its score, its weight. 0 may be its w, not its y
+    ∷ (reads (B ++ bytes "D,-1,102,-60,-7\n"), 4)
+    ∷ (reads (B ++ bytes "D,65536,102,-60,-7\n"), 4)
+    ∷ (reads (B ++ bytes "D,101,0,-60,-7\n"), 4)
+    ∷ (reads (B ++ bytes "D,0,0,-60,-7\n"), 4)
+    ∷ (reads (B ++ bytes "D,101,65536,-60,-7\n"), 4)
+    ∷ (reads (B ++ bytes "D,101,102,-1000001,-7\n"), 4)
+    ∷ (reads (B ++ bytes "D,101,102,1000001,-7\n"), 4)
+    ∷ (reads (B ++ bytes "D,101,102,-60,-1000001\n"), 4)
+    ∷ (reads (B ++ bytes "D,101,102,-60,1000001\n"), 4)
+    ∷ (reads (B ++ bytes "D,0,65535,-1000000,1000000\n" ++ bytes "D,65535,1,1000000,-1000000\n"), 0)
+    -- 20: a pair twice, a word twice, whatever else their lines say, also the same; word 0 as well. 4 and 6 before it, and it before 7
+    ∷ (reads (bookText ++ D ++ U ++ bytes "D,101,102,1,2\n"), 20)
+    ∷ (reads (bookText ++ D ++ D), 20)
+    ∷ (reads (bookText ++ U ++ D ++ bytes "U,101,1,2\n"), 20)
+    ∷ (reads (bookText ++ U ++ U), 20)
+    ∷ (reads (B ++ bytes "U,0,1,2\n" ++ bytes "U,0,3,4\n"), 20)
+    ∷ (reads (B ++ D ++ D ++ bytes "U,-1,-40,5\n"), 4)
+    ∷ (reads (bookText ++ D ++ D ++ bytes "T,0,101,102,-61\n"), 6)
+    ∷ (readRefusal (bookText ++ D ++ D) 43, 20)
+    ∷ (readRefusal (bookText ++ D ++ U) 52, 7)
+    ∷ (readRefusal (bookText ++ D ++ U) 53, 0)
+    ∷ []
+
+pub shorter-texts-agree : all agrees shorterTexts ≡ true
+unfolding computing shorterTexts bytes bookText
+shorter-texts-agree = refl
+
 -- ════ loaded books
 
 abbrev pub bLine : List ℤ
@@ -107,6 +174,16 @@ pLine = pos 2 ∷ pos 1 ∷ pos 1 ∷ pos 11 ∷ pos 101 ∷ negsuc 19 ∷ []
 
 abbrev pub tLine : List ℤ
 tLine = pos 3 ∷ pos 0 ∷ pos 0 ∷ pos 101 ∷ negsuc 39 ∷ []
+
+abbrev pub uLine : List ℤ
+uLine = pos 4 ∷ pos 101 ∷ negsuc 39 ∷ pos 5 ∷ []
+
+abbrev pub dLine : List ℤ
+dLine = pos 5 ∷ pos 101 ∷ pos 102 ∷ negsuc 59 ∷ negsuc 6 ∷ []
+
+-- a list that 20 refuses
+abbrev pub twice : List ℤ
+twice = bLine ++ pLine ++ dLine ++ dLine
 
 unfoldable pub loaded : List Row
 loaded =
@@ -119,7 +196,7 @@ loaded =
     ∷ (bookRefusal (take 3 bLine), 2)
     ∷ (bookRefusal (bLine ++ pLine ++ take 4 tLine), 2)
     ∷ (bookRefusal (bLine ++ take 1 pLine), 2)
-    ∷ (bookRefusal (pos 4 ∷ bLine), 2)
+    ∷ (bookRefusal (pos 6 ∷ bLine), 2)
     ∷ (bookRefusal (negsuc 0 ∷ []), 2)
     ∷ (bookRefusal (bLine ++ (pos 0 ∷ [])), 2)
     ∷ (bookRefusal (bLine ++ (pos 2 ∷ pos 9 ∷ pLine ++ pLine)), 2)
@@ -127,18 +204,35 @@ loaded =
     ∷ (bookRefusal (pLine ++ bLine), 3)
     ∷ (bookRefusal (bLine ++ tLine ++ bLine), 3)
     ∷ (bookRefusal (bLine ++ tLine ++ pLine ++ tLine), 6)
+    -- U and D lines: whole; cut off; one's numbers under the other's kind; a repeated word or pair, after 6
+    ∷ (bookRefusal (bLine ++ uLine ++ pLine ++ dLine ++ tLine), 0)
+    ∷ (bookRefusal (bLine ++ take 3 uLine), 2)
+    ∷ (bookRefusal (bLine ++ take 1 uLine), 2)
+    ∷ (bookRefusal (bLine ++ uLine ++ take 4 dLine), 2)
+    ∷ (bookRefusal (bLine ++ uLine ++ take 1 dLine), 2)
+    ∷ (bookRefusal (bLine ++ set dLine 0 (pos 4)), 2)
+    ∷ (bookRefusal (bLine ++ set uLine 0 (pos 5)), 2)
+    ∷ (bookRefusal (uLine ++ bLine), 3)
+    ∷ (bookRefusal (bLine ++ set dLine 2 (pos 0)), 4)
+    ∷ (bookRefusal (bLine ++ set dLine 1 (pos 0) ++ set uLine 1 (pos 0)), 0)
+    ∷ (bookRefusal twice, 20)
+    ∷ (bookRefusal (bLine ++ uLine ++ dLine ++ uLine), 20)
+    ∷ (bookRefusal (twice ++ tLine ++ tLine), 6)
     ∷ []
 
 pub loaded-agree : all agrees loaded ≡ true
 unfolding computing loaded bytes bookText book
 loaded-agree = refl
 
--- 5: one line too many of either kind; equal T lines are not asked about before
+-- 5: one line too many of any kind; equal lines are not asked about before
 unfoldable pub many : List Row
 many =
     (linesRefusal InText (bLine ∷ replicate 4096 pLine), 0)
     ∷ (linesRefusal InText (bLine ∷ replicate 4097 pLine), 5)
     ∷ (linesRefusal InText (bLine ∷ replicate 8193 tLine), 5)
+    ∷ (linesRefusal InText (bLine ∷ replicate 8193 uLine), 5)
+    ∷ (linesRefusal InText (bLine ∷ replicate 8193 dLine), 5)
+    ∷ (linesRefusal InText (bLine ∷ replicate 8192 dLine), 20)
     ∷ []
 
 pub many-agree : all agrees many ≡ true
@@ -202,6 +296,7 @@ proposals =
     ∷ (proposes 2 (step 1 1 1 ∷ []), 19)
     ∷ (proposalRefusal (book 2) [] [], 9)
     ∷ (proposalRefusal [] [] [], 3)
+    ∷ (proposalRefusal twice [] [], 20)
     ∷ []
 
 pub proposals-agree : all agrees proposals ≡ true
@@ -220,6 +315,11 @@ parts =
     ∷ (targetPart (book 2) 0 .start, 44)
     ∷ (targetPart (book 33) 1 .start, 44)
     ∷ (targetPart (book 33) 1 .size, 0)
+    ∷ (targetPart twice 1 .start, 20)
+    ∷ (targetPart twice 1 .size, 0)
+    -- behind a U and a D line
+    ∷ (targetPart (bLine ++ uLine ++ dLine ++ pLine) 1 .start, 17)
+    ∷ (targetPart (bLine ++ uLine ++ dLine ++ pLine) 1 .size, 1)
     ∷ []
 
 pub parts-agree : all agrees parts ≡ true
@@ -241,6 +341,7 @@ lists =
     ∷ (asks (pos 9_223_372_036_854_775_807) 2 16, 0)
     ∷ (beforeSearch (book 2) [] (minus 2) (record { steps = 0; words = 0; store = 0 }), 9)
     ∷ (beforeSearch (book 33) [] (minus 2) (record { steps = 0; words = 0; store = 0 }), 4)
+    ∷ (beforeSearch twice [] (minus 2) (record { steps = 0; words = 0; store = 0 }), 20)
     ∷ []
 
 pub lists-agree : all agrees lists ≡ true

@@ -1,4 +1,4 @@
--- How long a line and a book can be: a line has four to 20 numbers, and a book that 2 to 6 pass has no more than 12,289 lines.
+-- How long a line and a book can be: a line has four to 20 numbers, and a book that 2 to 6 pass has no more than 28,673 lines.
 use Prim.Native.Nat.{ℕ, _≤_, _<_}
 use mathlib.Core.Path.{_≡_, refl, ap, _∙_}
 use mathlib.Core.Bool.{Bool, true, false, not, _&&_, and-false}
@@ -33,7 +33,7 @@ phrase-to line =
 
 pub size-to : (form : Form) (line : List ℤ) → sizeOf form line ≤ 20
 unfolding sizeOf
-size-to form line = by-kind-ind (λ row. row .size form line) line (λ (n : ℕ). n ≤ 20) 1 kinds (omega arith) (omega arith, (phrase-to line, (omega arith, tt)))
+size-to form line = by-kind-ind (λ row. row .size form line) line (λ (n : ℕ). n ≤ 20) 1 kinds (omega arith) (omega arith, (phrase-to line, (omega arith, (omega arith, (omega arith, tt)))))
 
 -- a size is 0, or four at least
 abbrev From : ℕ → Type 0
@@ -44,7 +44,7 @@ phrase-from line = if-ind (isPhraseLength (numberAt line 1) && isPhraseLength (n
 
 pub size-from : (form : Form) (line : List ℤ) → (sizeOf form line ≡ 0 → ⊥) → 4 ≤ sizeOf form line
 unfolding sizeOf
-size-from form line = by-kind-ind (λ row. row .size form line) line From 1 kinds (λ h. absurd (h refl)) ((λ h. omega arith), (phrase-from line, ((λ h. omega arith), tt)))
+size-from form line = by-kind-ind (λ row. row .size form line) line From 1 kinds (λ h. absurd (h refl)) ((λ h. omega arith), (phrase-from line, ((λ h. omega arith), ((λ h. omega arith), ((λ h. omega arith), tt)))))
 
 -- a whole line has as many numbers as its kind takes, and so four at least
 pub whole-size : (form : Form) (line : List ℤ) → isWhole form line ≡ true → length line ≡ sizeOf form line

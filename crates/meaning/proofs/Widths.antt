@@ -1,4 +1,4 @@
--- A width of twice the score bound, 596,480,000, or more prunes nothing.
+-- A width of twice the score bound, 1,620,480,000, or more prunes nothing.
 use Prim.Native.Nat.{ℕ, _≤_}
 use native.Mathlib.Omega.{arith}
 use mathlib.Core.Path.{_≡_, refl, sym, ap, subst}

@@ -1,5 +1,5 @@
--- The book: its text, its lines as numbers, questions 1 to 7, and the model that it states.
--- A line is the list of its numbers, its kind first: "the letters B, P, T as 1, 2, 3".
+-- The book: its text, its lines as numbers, questions 1 to 7 and 20, and the model that it states.
+-- A line is the list of its numbers, its kind first: "the letters B, P, T as 1, 2, 3"; "U's kind is 4 and D's 5".
 use Prim.Native.Nat.{ℕ, zero, suc, _+_, _-_}
 use mathlib.Core.Bool.{Bool, true, false, not, _&&_, cond}
 use mathlib.Core.List.{List, [], _∷_, map, dropLast}
@@ -43,13 +43,21 @@ isWord z = withinℤ (pos 1) (pos wordMost) z
 abbrev pub isPhraseWord : ℤ → Bool
 isPhraseWord z = isWord z
 
--- the word v or w of a triple: "Word 0 is the start symbol and may stand only as v or w."
+-- the word v or w of a triple, the word w of a pair: "Word 0 is the start symbol and may stand only as v or w."; "Word 0 may be D's w"
 abbrev pub isHistoryWord : ℤ → Bool
 isHistoryWord z = withinℤ (pos 0) (pos wordMost) z
 
--- the word y of a triple, its last
+-- the word y of a triple or of a pair, its last
 abbrev pub isLastWord : ℤ → Bool
 isLastWord z = isWord z
+
+-- the word y of a U line: "Word 0 may be .. U's y"
+abbrev pub isLoneWord : ℤ → Bool
+isLoneWord z = withinℤ (pos 0) (pos wordMost) z
+
+-- "k is a back-off weight with a score's range"
+abbrev pub isWeight : ℤ → Bool
+isWeight z = isScore z
 
 -- "reordering limit d, 0 to 32; penalty eta, −10,000 to 10,000; score u for an unseen triple"
 abbrev pub rangesB : List ℤ → Bool
@@ -70,13 +78,25 @@ rangesT line =
     && isLastWord (numberAt line 3)
     && isScore (numberAt line 4)
 
+-- "`U,y,s,k` for a word"
+abbrev pub rangesU : List ℤ → Bool
+rangesU line = isLoneWord (numberAt line 1) && isScore (numberAt line 2) && isWeight (numberAt line 3)
+
+-- "`D,w,y,s,k` for a pair"
+abbrev pub rangesD : List ℤ → Bool
+rangesD line =
+    isHistoryWord (numberAt line 1)
+    && isLastWord (numberAt line 2)
+    && isScore (numberAt line 3)
+    && isWeight (numberAt line 4)
+
 -- how many P lines a book may have: "At most 4,096 P and 8,192 T lines."
 abbrev pub phrasesMost : ℕ
 phrasesMost = 4_096
 
--- how many T lines
-abbrev pub triplesMost : ℕ
-triplesMost = 8_192
+-- how many T lines, how many U and how many D lines: "Up to 8,192 lines of each kind"
+abbrev pub gramsMost : ℕ
+gramsMost = 8_192
 
 -- where a line stands: in a text, or in a loaded list
 pub data Form : Type 0 where
@@ -94,22 +114,32 @@ pub record Kind : Type 0 where
   pub ranges : List ℤ → Bool
   -- how many such lines a book may have
   pub most : ℕ
+  -- how many words the n-gram has that such a line lists, right behind its kind; 0 where it lists none
+  pub order : ℕ
 
 -- B,d,eta,u; "Is the first line a B line, and the only one?"
 abbrev pub kindB : Kind
-kindB = record { letter = 66; size = λ form line. 4; ranges = rangesB; most = 1 }
+kindB = record { letter = 66; size = λ form line. 4; ranges = rangesB; most = 1; order = 0 }
 
 -- P,a,b,x1..xa,y1..yb,g
 abbrev pub kindP : Kind
-kindP = record { letter = 80; size = λ form. phraseSize; ranges = rangesP; most = phrasesMost }
+kindP = record { letter = 80; size = λ form. phraseSize; ranges = rangesP; most = phrasesMost; order = 0 }
 
 -- T,v,w,y,s
 abbrev pub kindT : Kind
-kindT = record { letter = 84; size = λ form line. 5; ranges = rangesT; most = triplesMost }
+kindT = record { letter = 84; size = λ form line. 5; ranges = rangesT; most = gramsMost; order = 3 }
 
--- "the letters B, P, T as 1, 2, 3": the k-th row is kind k. "So the three kinds take 4, a + b + 4 and 5 numbers."
+-- U,y,s,k
+abbrev pub kindU : Kind
+kindU = record { letter = 85; size = λ form line. 4; ranges = rangesU; most = gramsMost; order = 1 }
+
+-- D,w,y,s,k
+abbrev pub kindD : Kind
+kindD = record { letter = 68; size = λ form line. 5; ranges = rangesD; most = gramsMost; order = 2 }
+
+-- "the letters B, P, T as 1, 2, 3"; "In a loaded book U's kind is 4 and D's 5.": the k-th row is kind k
 abbrev pub kinds : List Kind
-kinds = kindB ∷ kindP ∷ kindT ∷ []
+kinds = kindB ∷ kindP ∷ kindT ∷ kindU ∷ kindD ∷ []
 
 -- the line is of kind k, the k-th row's
 abbrev pub isKind : ℕ → List ℤ → Bool
@@ -126,6 +156,14 @@ isP line = isKind 2 line
 -- a T line
 abbrev pub isT : List ℤ → Bool
 isT line = isKind 3 line
+
+-- a U line
+abbrev pub isU : List ℤ → Bool
+isU line = isKind 4 line
+
+-- a D line
+abbrev pub isD : List ℤ → Bool
+isD line = isKind 5 line
 
 -- what the row of the line's kind says, among the rows from kind k on; `none` where it is of none of them
 abbrev pub byKindFrom : {A : Type 0} → A → (Kind → A) → List ℤ → ℕ → List Kind → A
@@ -158,7 +196,7 @@ kindOfLetter [] = 0
 kindOfLetter (b ∷ []) = kindOfByte b
 kindOfLetter (b ∷ c ∷ bytes) = 0
 
--- "a letter B, P or T and then one or more decimal numbers .., each after one comma"
+-- "a letter B, P or T and then one or more decimal numbers .., each after one comma"; "New lines: `D,w,y,s,k` .. and `U,y,s,k`"
 unfoldable pub isTextLine : List (List ℕ) → Bool
 isTextLine [] = false
 isTextLine (letter ∷ []) = false
@@ -176,7 +214,7 @@ lineNumbers (letter ∷ fields) = pos (kindOfLetter letter) ∷ map valueOf fiel
 unfoldable pub textLines : List ℕ → List (List ℤ)
 textLines text = map lineNumbers (linesOf text)
 
--- ════ lines as numbers: questions 2 to 6
+-- ════ lines as numbers: questions 2 to 6 and 20
 
 -- how many numbers the line takes that stands at the front; 0 for an unknown kind
 unfoldable pub sizeOf : Form → List ℤ → ℕ
@@ -209,19 +247,31 @@ isOneBFirst (line ∷ lines) = isB line && not (any isB lines)
 unfoldable pub isInRange : List ℤ → Bool
 isInRange line = byKind false (λ row. row .ranges line) line
 
--- question 5: "Are there no more P and T lines than allowed?" It asks of every kind but B, the first row, of which question 3 asks
+-- question 5: "Are there no more P and T lines than allowed?"; "Up to 8,192 lines of each kind, under 5." It asks of every kind but B, the first row, of which question 3 asks
 unfoldable pub isNotTooLong : List (List ℤ) → Bool
 isNotTooLong lines = areFew lines 2 (drop 1 kinds)
 
--- v, w and y of a T line
-abbrev pub tripleKey : List ℤ → List ℤ
-tripleKey line = take 3 (drop 1 line)
+-- how many words the n-gram has that the line lists: 3 of a T, 2 of a D, 1 of a U line
+unfoldable pub orderOf : List ℤ → ℕ
+orderOf line = byKind 0 (λ row. row .order) line
+
+-- its words as they stand in the line: v, w and y of a T line, w and y of a D line, y of a U line
+abbrev pub gramNumbers : List ℤ → List ℤ
+gramNumbers line = take (orderOf line) (drop 1 line)
+
+-- no two lines of a kind share them
+abbrev pub isNoneTwice : (List ℤ → Bool) → List (List ℤ) → Bool
+isNoneTwice isOne lines = noneTwice (eqList eqℤ) (map gramNumbers (keep isOne lines))
 
 -- question 6: "Do no two T lines share v, w and y?"
 unfoldable pub isNoTripleTwice : List (List ℤ) → Bool
-isNoTripleTwice lines = noneTwice (eqList eqℤ) (map tripleKey (keep isT lines))
+isNoTripleTwice lines = isNoneTwice isT lines
 
--- questions 2 to 6, of the lines of a text or of a loaded list
+-- question 20: "when two D lines share a pair or two U lines a word"
+unfoldable pub isNoShorterTwice : List (List ℤ) → Bool
+isNoShorterTwice lines = isNoneTwice isD lines && isNoneTwice isU lines
+
+-- questions 2 to 6 and "20, asked after 6", of the lines of a text or of a loaded list
 unfoldable pub linesRefusal : Form → List (List ℤ) → ℕ
 linesRefusal form lines =
     2 unless all (isWhole form) lines
@@ -229,8 +279,9 @@ linesRefusal form lines =
     orelse 4 unless all isInRange lines
     orelse 5 unless isNotTooLong lines
     orelse 6 unless isNoTripleTwice lines
+    orelse 20 unless isNoShorterTwice lines
 
--- "Any call that takes a loaded book ..: 2 to 6."
+-- "Any call that takes a loaded book ..: 2 to 6."; 20, "and each check of a loaded book added later, counts among" them
 unfoldable pub bookRefusal : List ℤ → ℕ
 bookRefusal loaded = linesRefusal InList (loadedLines loaded)
 
@@ -255,21 +306,20 @@ pub record Entry : Type 0 where
   pub target : List ℕ
   pub g : ℤ
 
--- "the score s of target word y after the words v and w"
-pub record Triple : Type 0 where
-  pub v : ℕ
-  pub w : ℕ
-  pub y : ℕ
+-- an n-gram, a triple v, w, y, a pair w, y or a word y: its words, its score s, and its back-off weight k, 0 of a triple, which has none
+pub record Gram : Type 0 where
+  pub words : List ℕ
   pub s : ℤ
+  pub k : ℤ
 
--- the reordering limit d (the notes' distortion limit), the penalty eta, the score u of an unseen triple, the entries and
--- the triples (the notes' lexicon and language model)
+-- the reordering limit d (the notes' distortion limit), the penalty eta, the score u of an unseen word, the entries and
+-- the n-grams (the notes' lexicon and language model)
 pub record Book : Type 0 where
   pub limit : ℕ
   pub eta : ℤ
   pub unseen : ℤ
   pub entries : List Entry
-  pub triples : List Triple
+  pub grams : List Gram
 
 abbrev pub wordsAt : List ℤ → ℕ → ℕ → List ℕ
 wordsAt line from many = map natOf (take many (drop from line))
@@ -282,9 +332,17 @@ entryOf line = record {
   g = numberAt line (3 + naturalAt line 1 + naturalAt line 2);
 }
 
--- T,v,w,y,s
-unfoldable pub tripleOf : List ℤ → Triple
-tripleOf line = record { v = naturalAt line 1; w = naturalAt line 2; y = naturalAt line 3; s = numberAt line 4 }
+-- T,v,w,y,s, D,w,y,s,k or U,y,s,k
+unfoldable pub gramOf : List ℤ → Gram
+gramOf line = record {
+  words = wordsAt line 1 (orderOf line);
+  s = numberAt line (1 + orderOf line);
+  k = numberAt line (2 + orderOf line);
+}
+
+-- the line lists an n-gram
+unfoldable pub isGram : List ℤ → Bool
+isGram line = leb 1 (orderOf line)
 
 -- B,d,eta,u; "The k-th P line is entry k."
 unfoldable pub bookOfLines : List (List ℤ) → Book
@@ -293,7 +351,7 @@ bookOfLines lines = record {
   eta = numberAt (getD lines 0 []) 2;
   unseen = numberAt (getD lines 0 []) 3;
   entries = map entryOf (keep isP lines);
-  triples = map tripleOf (keep isT lines);
+  grams = map gramOf (keep isGram lines);
 }
 
 unfoldable pub bookOf : List ℤ → Book

@@ -10,22 +10,41 @@ use lib.Seq.{slice}
 use Rattle.laws.specs.Lists.{all, count, eqList, concat, oneTo, sumℤ}
 use Rattle.search_theory.specs.Orders.{before}
 use Rattle.meaning.specs.Questions.{within}
-use Rattle.meaning.specs.Book.{Book, Entry, Triple}
+use Rattle.meaning.specs.Book.{Book, Entry, Gram}
 use Rattle.meaning.specs.Direction.{wordCount}
 use Rattle.meaning.specs.declared.Step.{Step}
 
 -- ════ the language model
 
-abbrev pub isTriple : ℕ → ℕ → ℕ → Triple → Bool
-isTriple v w y t = eqb (t .v) v && eqb (t .w) w && eqb (t .y) y
+-- a number of the first n-gram listed that has these words, or `other` where none has them
+abbrev pub listed : (Gram → ℤ) → ℤ → List ℕ → List Gram → ℤ
+listed number other words [] = other
+listed number other words (g ∷ gs) = cond (eqList eqb (g .words) words) (number g) (listed number other words gs)
 
-abbrev pub listedScore : ℕ → ℕ → ℕ → ℤ → List Triple → ℤ
-listedScore v w y unseen [] = unseen
-listedScore v w y unseen (t ∷ ts) = cond (isTriple v w y t) (t .s) (listedScore v w y unseen ts)
+module _ (grams : List Gram) where
+  abbrev pub scoreOr : ℤ → List ℕ → ℤ
+  scoreOr other words = listed (λ g. g .s) other words grams
 
--- the score of the triple v, w, y: "A triple with no T line scores u."
+  -- "the weight of .. (0 if unlisted)"
+  abbrev pub weight : List ℕ → ℤ
+  weight words = listed (λ g. g .k) (pos 0) words grams
+
+module _ (u : ℤ) (grams : List Gram) where
+  -- "the score of word y, or u if unlisted"
+  unfoldable pub wordScore : ℕ → ℤ
+  wordScore y = scoreOr grams u (y ∷ [])
+
+  -- "an unlisted pair scores the weight of w (0 if unlisted) plus the score of word y"
+  unfoldable pub pairScore : ℕ → ℕ → ℤ
+  pairScore w y = scoreOr grams (weight grams (w ∷ []) +ℤ wordScore y) (w ∷ y ∷ [])
+
+  -- "A triple v, w, y without a T line scores the weight of pair v, w (0 if unlisted) plus the score of pair w, y"
+  unfoldable pub backedOff : ℕ → ℕ → ℕ → ℤ
+  backedOff v w y = scoreOr grams (weight grams (v ∷ w ∷ []) +ℤ pairScore w y) (v ∷ w ∷ y ∷ [])
+
+-- the score of the triple v, w, y in a book
 unfoldable pub tripleScore : Book → ℕ → ℕ → ℕ → ℤ
-tripleScore book v w y = listedScore v w y (book .unseen) (book .triples)
+tripleScore book v w y = backedOff (book .unseen) (book .grams) v w y
 
 -- "for each target word in turn, the score of the triple it ends", in a row that goes on from v and w
 unfoldable pub wordsScore : Book → ℕ → ℕ → List ℕ → ℤ

@@ -5,7 +5,7 @@ use lib.Dec.{leb}
 use lib.IntN.{ℤ}
 use lib.Signed.{leZ}
 use Rattle.meaning.specs.declared.Refusal.{Refusal}
-use Rattle.meaning.specs.declared.Refusal.the-variants.{BookText, LineFields, BLine, NumberRange, LineCount, RepeatedTriple, ListTooShort, DirectionText, WordCount, WordRange, Width, StepsOrWordsTooShort, StoreTooSmall, NoDerivation, LastSetEmpty, DoesNotFit, CoveredTwice, JumpTooLong, Uncovered}
+use Rattle.meaning.specs.declared.Refusal.the-variants.{BookText, LineFields, BLine, NumberRange, LineCount, RepeatedTriple, ListTooShort, DirectionText, WordCount, WordRange, Width, StepsOrWordsTooShort, StoreTooSmall, NoDerivation, LastSetEmpty, DoesNotFit, CoveredTwice, JumpTooLong, Uncovered, RepeatedShorter}
 
 -- "No: k": the refusal k where the test fails, 0 (no refusal) where it passes
 infix 25 _unless_
@@ -26,7 +26,15 @@ within low high n = leb low n && leb n high
 abbrev pub withinℤ : ℤ → ℤ → ℤ → Bool
 withinℤ low high z = leZ low z && leZ z high
 
--- this paper's number of each refusal
+-- the questions that a search answers, 13 to 15
+abbrev pub isOfSearch : ℕ → Bool
+isOfSearch k = within 13 15 k
+
+-- the questions of proposed steps, 16 to 19
+abbrev pub isOfSteps : ℕ → Bool
+isOfSteps k = within 16 19 k
+
+-- the papers' number of each refusal
 abbrev pub number : Refusal → ℕ
 number BookText = 1
 number LineFields = 2
@@ -47,3 +55,4 @@ number DoesNotFit = 16
 number CoveredTwice = 17
 number JumpTooLong = 18
 number Uncovered = 19
+number RepeatedShorter = 20

@@ -101,14 +101,15 @@ isBetter new old = ahead stepBefore new old
 
 -- ════ the bound, and the constants of the code
 
--- "No score passes 32 × (1,000,000 + 8 × 1,000,000 + 32 × 10,000) = 298,240,000": what a step can add, for each of 32 words
+-- "No score passes 32 × (1,000,000 + 8 × 1,000,000 + 32 × 10,000)": what a step can add, for each of 32 words. With back-off a word
+-- scores at most 3,000,000, and "the bound becomes 810,240,000"
 abbrev pub gainBound : ℕ
 gainBound = scoreMost + wordsBound + 32 * penaltyMost
 
 abbrev pub scoreBound : ℕ
 scoreBound = 32 * gainBound
 
--- "a width of 596,480,000": no two scores are further apart, so it prunes nothing
+-- "the width that prunes nothing twice that", 1,620,480,000: no two scores are further apart
 abbrev pub spreadBound : ℕ
 spreadBound = 2 * scoreBound
 

@@ -33,7 +33,7 @@ impl State {
     };
 
     // .. and another gives the score bound.
-    pub const SCORE_BOUND: i64 = 298_240_000;
+    pub const SCORE_BOUND: i64 = 810_240_000;
 
     // The constant is the start state of every direction.
     pub fn start() -> State
@@ -71,9 +71,10 @@ pub enum Refusal {
     CoveredTwice,
     JumpTooLong,
     Uncovered,
+    RepeatedShorter,
 }
 
-// The refusal's number in document 01.
+// The refusal's number in the papers.
 pub fn number_of(refusal: Refusal) -> usize
     ensures { λ r. ⌜ r ≡ number refusal ⌝ }
 {
@@ -97,6 +98,7 @@ pub fn number_of(refusal: Refusal) -> usize
         Refusal::CoveredTwice => 17,
         Refusal::JumpTooLong => 18,
         Refusal::Uncovered => 19,
+        Refusal::RepeatedShorter => 20,
     }
 }
 

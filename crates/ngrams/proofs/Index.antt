@@ -5,17 +5,16 @@ use mathlib.Core.Bool.{true, false}
 use mathlib.Core.List.{List}
 use native.Mathlib.Omega.{arith}
 use lib.Dec.{eqb}
-use lib.IntN.{pos, _-ℤ_}
 use lib.ListN.{length, getD, set, length-set}
 use lib.Seq.{getD-set-same, getD-set-other}
 use borrow.Author.Tests.{eqb-true, eqb-false}
 use Rattle.laws.specs.Index.{Walk}
 use Rattle.laws.proofs.Tests.{by-test}
 use Rattle.laws.proofs.Index.{chained-none, chained-more, chained-same, walk-start, walk-step, walk-less}
-use Rattle.halves.proofs.Halves.{whole-same}
+use Rattle.halves.proofs.Halves.{signed-same}
 use Rattle.ngrams.specs.declared.Key.{Key}
 use Rattle.ngrams.specs.Parts.{bucketCount, recordsMost, recordSize, linksFrom, recordsFrom, recordsEnd, headAt, linkAt, KeptFrom, KeptBelow}
-use Rattle.ngrams.specs.Grams.{recordAt, keyAt, signShift, scoreAt, tripleAt, bucketOf, bucketAt, holds, Room, Indexed, Cleared, Inserted}
+use Rattle.ngrams.specs.Grams.{recordAt, keyAt, scoreAt, weightAt, gramAt, bucketOf, bucketAt, holds, Room, Indexed, Cleared, Inserted}
 use Rattle.ngrams.proofs.Keys.{same-is}
 use Rattle.ngrams.proofs.Parts.{kept-all, kept-set, kept-then}
 
@@ -33,25 +32,25 @@ module _ (old new : List ℕ) (k : ℕ) (same : (f : ℕ) → f < recordSize →
 
   pub key-same : keyAt new k ≡ keyAt old k
   unfolding keyAt
-  key-same = rw (first, same 1 (omega arith), same 2 (omega arith))
+  key-same = rw (first, same 1 (omega arith), same 2 (omega arith), same 3 (omega arith))
 
   score-same : scoreAt new k ≡ scoreAt old k
-  unfolding scoreAt
-  score-same =
-      let z : recordAt k + 3 + 1 ≡ recordAt k + 4 = omega arith in
-      ap (λ (n : ℕ). pos n -ℤ pos signShift) (whole-same old new (recordAt k + 3) (same 3 (omega arith)) (rw z (same 4 (omega arith))))
+  score-same = let z : recordAt k + 4 + 1 ≡ recordAt k + 5 = omega arith in signed-same old new (recordAt k + 4) (same 4 (omega arith)) (rw z (same 5 (omega arith)))
 
-  pub triple-same : tripleAt new k ≡ tripleAt old k
-  unfolding tripleAt
-  triple-same = rw (key-same, score-same)
+  weight-same : weightAt new k ≡ weightAt old k
+  weight-same = let z : recordAt k + 6 + 1 ≡ recordAt k + 7 = omega arith in signed-same old new (recordAt k + 6) (same 6 (omega arith)) (rw z (same 7 (omega arith)))
+
+  pub gram-same : gramAt new k ≡ gramAt old k
+  unfolding gramAt
+  gram-same = rw (key-same, score-same, weight-same)
 
 -- from the records on
 module _ {old new : List ℕ} (same : KeptFrom recordsFrom old new) where
   pub kept-key : (k : ℕ) → keyAt new k ≡ keyAt old k
   kept-key k = key-same old new k (λ f l. same .at (recordAt k + f) (omega arith))
 
-  pub kept-triple : (k : ℕ) → tripleAt new k ≡ tripleAt old k
-  kept-triple k = triple-same old new k (λ f l. same .at (recordAt k + f) (omega arith))
+  pub kept-gram : (k : ℕ) → gramAt new k ≡ gramAt old k
+  kept-gram k = gram-same old new k (λ f l. same .at (recordAt k + f) (omega arith))
 
   kept-bucket : (k : ℕ) → bucketAt new k ≡ bucketAt old k
   unfolding bucketAt
@@ -151,8 +150,8 @@ heads-none index k h l j m =
 -- ---- the caller's part is written: the index and the records stay
 
 module _ {old new : List ℕ} (same : KeptBelow recordsEnd old new) where
-  pub below-triple : (k : ℕ) → k < recordsMost → tripleAt new k ≡ tripleAt old k
-  below-triple k l = triple-same old new k (λ f m. same .at (recordAt k + f) (omega arith))
+  pub below-gram : (k : ℕ) → k < recordsMost → gramAt new k ≡ gramAt old k
+  below-gram k l = gram-same old new k (λ f m. same .at (recordAt k + f) (omega arith))
 
   pub below-key : (k : ℕ) → k < recordsMost → keyAt new k ≡ keyAt old k
   below-key k l = key-same old new k (λ f m. same .at (recordAt k + f) (omega arith))

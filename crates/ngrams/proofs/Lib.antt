@@ -3,5 +3,5 @@ pub mod Keys
 pub mod Records
 pub mod Index
 pub mod Differ
-pub mod Scores
 pub mod Lines
+pub mod Repeats

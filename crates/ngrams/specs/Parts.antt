@@ -3,19 +3,19 @@ use Prim.Native.Nat.{ℕ, _+_, _*_, _≤_, _<_}
 use mathlib.Core.Path.{_≡_}
 use mathlib.Core.List.{List}
 use lib.ListN.{length, getD}
-use Rattle.meaning.specs.Book.{triplesMost}
+use Rattle.meaning.specs.Book.{gramsMost}
 
 -- how many buckets there are
 abbrev pub bucketCount : ℕ
-bucketCount = 8_192
+bucketCount = 16_384
 
--- a record for each T line that question 5 allows
+-- a record for each T, U and D line that question 5 allows
 abbrev pub recordsMost : ℕ
-recordsMost = triplesMost
+recordsMost = 3 * gramsMost
 
--- how many numbers a record has: v, w, y, and the score in two halves
+-- how many numbers a record has: three words, how many of them are the n-gram's, and the score and the weight in two halves each
 abbrev pub recordSize : ℕ
-recordSize = 5
+recordSize = 8
 
 -- where the links begin, where the records begin, and where they end
 abbrev pub linksFrom : ℕ

@@ -1,26 +1,20 @@
 // The index of the language model's n-grams, in ONE list that holds what is known of a book, as named parts: the heads of the buckets from 0 on,
-// the links of the records from LINKS on, and the records from RECORDS on, five numbers each (v, w, y, and the score in two halves). What stands from
-// RECORDS_END on is the caller's. A head or a link is 1 + a record's number, or 0.
+// the links of the records from LINKS on, and the records from RECORDS on, eight numbers each (three words, how many of them are the n-gram's, and the
+// score and the weight in two halves each). What stands from RECORDS_END on is the caller's. A head or a link is 1 + a record's number, or 0.
 use lines::WORD_SPAN;
 ghost use mathlib.Core.Path.{_≡_};
-ghost use mathlib.Core.Bool.{true};
-ghost use Prim.Native.Nat.{_+_, _^_, _<_, _≤_};
+ghost use Prim.Native.Nat.{_+_, _≤_, _<_};
 ghost use lib.ListN.{length};
 ghost use Rattle.laws.specs.Index.{latest};
-ghost use Rattle.laws.specs.Lists.{noneTwice};
-ghost use Rattle.meaning.specs.Derivation.{listedScore};
 ghost use Rattle.ngrams.specs.Parts.{bucketCount};
-ghost use Rattle.ngrams.specs.Grams.{recordAt, keyAt, scoreAt, shifted, keysIn, triplesIn, putRecord, sameKey, holds, bucketOf, Room, Indexed, Cleared, Inserted, earlierAlike, Compared, latestScore};
+ghost use Rattle.ngrams.specs.Grams.{recordAt, keyAt, scoreAt, weightAt, wordOr0, putRecord, holds, bucketOf, Room, Indexed, Cleared, Inserted, earlierAlike, withRepeat, Compared};
 
 // How many buckets there are, how many records there may be, and how many numbers a record has.
-const BUCKETS: usize = 8192;
+const BUCKETS: usize = 16384;
 
-pub const RECORDS_MOST: usize = lines::TRIPLES_MOST;
+pub const RECORDS_MOST: usize = 3 * lines::GRAMS_MOST;
 
-const RECORD_SIZE: usize = 5;
-
-// What is added to a signed number that stands in the list.
-const SIGN_SHIFT: i64 = 2147483648;
+const RECORD_SIZE: usize = 8;
 
 // Where the links begin, where the records begin, and where they end.
 const LINKS: usize = BUCKETS;
@@ -29,17 +23,12 @@ const RECORDS: usize = LINKS + RECORDS_MOST;
 
 pub const RECORDS_END: usize = RECORDS + RECORD_SIZE * RECORDS_MOST;
 
-// The words of an n-gram: y after v and w.
+// The words of an n-gram in their order, 0 for each that it does not have, and how many it has: 3 for a triple, 2 for a pair, 1 for a word.
 pub struct Key {
-    pub v: usize,
-    pub w: usize,
-    pub y: usize,
-}
-
-// What a lookup answers: the score of the n-gram, or that no record is that n-gram.
-pub enum Score {
-    Is(i64),
-    Unseen,
+    pub first: usize,
+    pub second: usize,
+    pub third: usize,
+    pub order: usize,
 }
 
 // ---- the parts of the list
@@ -51,9 +40,10 @@ fn key_at(index: &[u16], k: usize) -> Key
 {
     let at = RECORDS + RECORD_SIZE * k;
     Key {
-        v: halves::number_at(index, at),
-        w: halves::number_at(index, at + 1),
-        y: halves::number_at(index, at + 2),
+        first: halves::number_at(index, at),
+        second: halves::number_at(index, at + 1),
+        third: halves::number_at(index, at + 2),
+        order: halves::number_at(index, at + 3),
     }
 }
 
@@ -63,9 +53,11 @@ fn is_key(index: &[u16], k: usize, key: Key) -> bool
     ensures { λ r. ⌜ r ≡ holds (now (index .entry)) key k ⌝ }
 {
     let at = RECORDS + RECORD_SIZE * k;
-    if halves::number_at(index, at) == key.v {
-        if halves::number_at(index, at + 1) == key.w {
-            return halves::number_at(index, at + 2) == key.y;
+    if halves::number_at(index, at) == key.first {
+        if halves::number_at(index, at + 1) == key.second {
+            if halves::number_at(index, at + 2) == key.third {
+                return halves::number_at(index, at + 3) == key.order;
+            }
         }
     }
     false
@@ -75,12 +67,15 @@ fn is_key(index: &[u16], k: usize, key: Key) -> bool
 fn bucket(key: Key) -> usize
     ensures { λ r. ⌜ (r ≡ bucketOf key) × (r < bucketCount) ⌝ }
 {
-    ((key.v % WORD_SPAN) * 40503 + (key.w % WORD_SPAN) * 60493 + (key.y % WORD_SPAN) * 25717) / 16
+    ((key.first % WORD_SPAN) * 40503
+        + (key.second % WORD_SPAN) * 60493
+        + (key.third % WORD_SPAN) * 25717)
+        / 16
         % BUCKETS
 }
 
 // Walks the chain of the key's bucket: 1 + the latest of the first `count` records that has its words, or 0.
-fn find(index: &[u16], count: usize, key: Key) -> usize
+pub fn find(index: &[u16], count: usize, key: Key) -> usize
     requires { ⌜ Indexed (now index) count ⌝ }
     ensures { λ r. ⌜ r ≡ latest (holds (now (index .entry)) key) count ⌝ }
 {
@@ -95,25 +90,47 @@ fn find(index: &[u16], count: usize, key: Key) -> usize
     0
 }
 
-// ---- the writers: each says from where on the list is as it was
-
-// A signed number as the natural one that stands for it.
-fn shifted(x: i32) -> usize
-    ensures { λ r. ⌜ (r ≡ shifted x) × (r < 2 ^ 32) ⌝ }
+// The score of record k.
+pub fn score_at(index: &[u16], k: usize) -> i64
+    requires { ⌜ recordAt (k + 1) ≤ length (now index) ⌝ }
+    ensures { λ r. ⌜ r ≡ scoreAt (now (index .entry)) k ⌝ }
 {
-    (x as i64 + SIGN_SHIFT) as usize
+    halves::signed_at(index, RECORDS + RECORD_SIZE * k + 4)
 }
 
-// The record of a T line, put as record k.
+// The back-off weight of record k.
+pub fn weight_at(index: &[u16], k: usize) -> i64
+    requires { ⌜ recordAt (k + 1) ≤ length (now index) ⌝ }
+    ensures { λ r. ⌜ r ≡ weightAt (now (index .entry)) k ⌝ }
+{
+    halves::signed_at(index, RECORDS + RECORD_SIZE * k + 6)
+}
+
+// ---- the writers: each says from where on the list is as it was
+
+// Word j, from 1 on, of a line that lists n words; 0 where it lists fewer.
+fn word_or_0(line: &[i32], n: usize, j: usize) -> u16
+    ensures { λ r. ⌜ r ≡ wordOr0 (now (line .entry)) n j ⌝ }
+{
+    if j <= n {
+        return lines::word_at(line, j);
+    }
+    0
+}
+
+// The record of a T, U or D line, put as record k.
 pub fn put_record(index: &mut [u16], k: usize, line: &[i32])
     requires { ⌜ recordAt (k + 1) ≤ length (now index) ⌝ }
     ensures { λ _. ⌜ now (index .exit) ≡ putRecord (now (index .entry)) k (now (line .entry)) ⌝ }
 {
     let at = RECORDS + RECORD_SIZE * k;
-    index[at] = lines::word_at(line, 1);
-    index[at + 1] = lines::word_at(line, 2);
-    index[at + 2] = lines::word_at(line, 3);
-    halves::put_whole(index, at + 3, shifted(lines::number_at(line, 4)));
+    let n = lines::order_of(line);
+    index[at] = word_or_0(line, n, 1);
+    index[at + 1] = word_or_0(line, n, 2);
+    index[at + 2] = word_or_0(line, n, 3);
+    index[at + 3] = n as u16;
+    halves::put_signed(index, at + 4, lines::number_at(line, n + 1));
+    halves::put_signed(index, at + 6, lines::number_at(line, n + 2));
 }
 
 // No head: every bucket is empty.
@@ -139,62 +156,37 @@ fn insert(index: &mut [u16], i: usize)
     index[h] = (i + 1) as u16;
 }
 
-// 1 + the latest record before record i that has its words, or 0.
-fn earlier_alike(index: &[u16], i: usize) -> usize
+// ---- questions 6 and 20
+
+// What the records up to record i answer to them: `found` is what those before it answered. 6 stands, since it is asked first.
+fn with_repeat(index: &[u16], i: usize, found: usize) -> usize
     requires { ⌜ Indexed (now index) i ⌝ }
     requires { ⌜ Room (now index) (i + 1) ⌝ }
-    ensures { λ r. ⌜ r ≡ earlierAlike (now (index .entry)) i ⌝ }
+    ensures { λ r. ⌜ r ≡ withRepeat found (earlierAlike (now (index .entry)) i) (keyAt (now (index .entry)) i .order) ⌝ }
 {
-    find(index, i, key_at(index, i))
+    if found == 6 {
+        return found;
+    }
+    let key = key_at(index, i);
+    if find(index, i, key) == 0 {
+        return found;
+    }
+    if key.order == 3 { 6 } else { 20 }
 }
 
-// Do the words of the first `count` records differ? Where that is so, the list is left as their index. The records stay.
-pub fn all_different(index: &mut [u16], count: usize) -> bool
+// Do no two of the first `count` records have the same words? 6 where two triples have, else 20 where two pairs or two words have, or 0. The list is left as
+// the records' index. The records stay.
+pub fn index_all(index: &mut [u16], count: usize) -> usize
     requires { ⌜ Room (now index) count ⌝ }
     ensures { λ r. ⌜ Compared (now (index .entry)) (now (index .exit)) count r ⌝ }
 {
     clear(index);
+    let mut found = 0;
     let mut i = 0;
     while i < count {
-        if earlier_alike(index, i) > 0 {
-            return false;
-        }
+        found = with_repeat(index, i, found);
         insert(index, i);
         i += 1;
     }
-    true
-}
-
-// ---- the readers
-
-// The score of record k.
-fn score_at(index: &[u16], k: usize) -> i64
-    requires { ⌜ recordAt (k + 1) ≤ length (now index) ⌝ }
-    ensures { λ r. ⌜ r ≡ scoreAt (now (index .entry)) k ⌝ }
-{
-    halves::whole_at(index, RECORDS + RECORD_SIZE * k + 3) as i64 - SIGN_SHIFT
-}
-
-// The score of the latest of the first `count` records that has the words of the key.
-pub fn lookup(index: &[u16], count: usize, key: Key) -> Score
-    requires { ⌜ Indexed (now index) count ⌝ }
-    ensures { λ r. ⌜ r ≡ latestScore (now (index .entry)) count key ⌝ }
-{
-    let at = find(index, count, key);
-    if at == 0 {
-        return Score::Unseen;
-    }
-    Score::Is(score_at(index, at - 1))
-}
-
-// The score of a triple in the language model: that of its T line, or `unseen` where it has none.
-pub fn triple_score(index: &[u16], count: usize, unseen: i64, key: Key) -> i64
-    requires { ⌜ Indexed (now index) count ⌝ }
-    requires { ⌜ noneTwice sameKey (keysIn (now index) count) ≡ true ⌝ }
-    ensures { λ r. ⌜ r ≡ listedScore (key .v) (key .w) (key .y) unseen (triplesIn (now (index .entry)) count) ⌝ }
-{
-    let Score::Is(s) = lookup(index, count, key) else {
-        return unseen;
-    };
-    s
+    found
 }

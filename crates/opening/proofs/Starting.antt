@@ -1,27 +1,26 @@
--- The B line stands at the front of the list; and a book that is open has the model of its triples.
+-- The B line stands at the front of the list; and a book that is open has the model of its n-grams.
 use Prim.Native.Nat.{ℕ, _<_, _+_}
 use native.Mathlib.Omega.{arith}
 use mathlib.Core.Path.{_≡_, refl, sym, _∙_, ap, ap₂, subst}
 use mathlib.Core.Bool.{true, false≢true}
-use mathlib.Core.List.{List, [], _∷_}
+use mathlib.Core.List.{List, [], _∷_, List·Memᴰ}
 use lib.IntN.{ℤ}
 use lib.ListN.{length, getD}
 use Rattle.laws.specs.Integers.{Within, natOf}
-use Rattle.meaning.specs.Bounds.{scoreMost, penaltyMost}
+use Rattle.meaning.specs.Bounds.{scoreMost, penaltyMost, tripleBound}
 use Rattle.meaning.specs.Questions.{_orelse_, number}
-use Rattle.meaning.specs.Book.{InList, numberAt, naturalAt, isOneBFirst, bookRefusal, bookOf, bookOfLines, loadedLines}
+use Rattle.meaning.specs.Book.{InList, Gram, numberAt, naturalAt, isOneBFirst, bookRefusal, bookOf, bookOfLines, loadedLines}
 use Rattle.meaning.specs.Direction.{wordCount, directionRefusal}
-use Rattle.meaning.specs.Derivation.{listedScore, tripleScore}
+use Rattle.meaning.specs.Derivation.{backedOff, tripleScore}
 use Rattle.meaning.specs.declared.Refusal.{Refusal}
 use Rattle.meaning.proofs.Ranges.{lines-passed, loaded-ranged}
 use Rattle.meaning.proofs.Bounds.{triple-within}
-use Rattle.laws.specs.Lists.{noneTwice}
-use Rattle.ngrams.specs.Grams.{triplesIn, sameKey, Indexed}
-use Rattle.ngrams.proofs.Index.{below-indexed}
-use Rattle.ngrams.proofs.Differ.{below-keys, below-triples}
+use Rattle.ngrams.specs.Grams.{gramsIn}
+use Rattle.ngrams.proofs.Differ.{below-grams, below-listing}
 use Rattle.book.specs.Loaded.{sizeAt}
 use Rattle.book.specs.Entries.{EntriesAt, Placed}
 use Rattle.book.proofs.Cuts.{LineAt, line-here, line-number, lines-end}
+use Rattle.loading.specs.declared.load.Grams.{Grams}
 use Rattle.loading.specs.Loaded.{Known}
 use Rattle.meaning.proofs.Numbered.{number-from, refused-first}
 use Rattle.derivation.specs.declared.Setup.{Setup}
@@ -78,36 +77,42 @@ module _ (loaded : List ℤ) (passed : bookRefusal loaded ≡ 0) where
 
   -- the numbers that code reads there
   pub setup-is : (n : ℕ) (counts : Counts) (limit : ℕ) (eta unseen : ℤ) → limit ≡ naturalAt loaded 1 → eta ≡ numberAt loaded 2 → unseen ≡ numberAt loaded 3
-      → SetupOf (bookOf loaded) n counts (record { n = n; limit = limit; eta = eta; unseen = unseen; phrases = counts .phrases; triples = counts .triples })
+      → SetupOf (bookOf loaded) n counts (record { n = n; limit = limit; eta = eta; phrases = counts .phrases; model = record { count = counts .grams; shorter = counts .shorter; unseen = unseen } })
   setup-is n counts limit eta unseen a b c = record {
     n-is = refl;
     limit-is = a ∙ sym limit-read;
     eta-is = b ∙ sym eta-read;
-    unseen-is = c ∙ sym unseen-read;
     phrases-are = refl;
-    triples-are = refl;
+    unseen-is = c ∙ sym unseen-read;
+    grams-are = refl;
+    shorter-are = refl;
   }
 
 -- ════ the model
 
 module _ {loaded : List ℤ} {index : List ℕ} {counts : Counts} {t : Setup} (direction : List ℕ) (o : Open loaded index counts) (d : directionRefusal direction ≡ 0)
     (k : SetupOf (bookOf loaded) (length direction) counts t) where
-  -- the triples in the list are the book's
-  listed : triplesIn index (t .triples) ≡ bookOf loaded .triples
-  listed = ap (triplesIn index) (k .triples-are) ∙ o .triples-are
+  -- the n-grams in the list are the book's
+  listed : gramsIn index (t .model .count) ≡ bookOf loaded .grams
+  listed = ap (gramsIn index) (k .grams-are) ∙ o .grams-are
 
   -- so the score of a triple by the list is its score by the book
   same-score : (v w y : ℕ) → modelScore index t v w y ≡ tripleScore (bookOf loaded) v w y
   unfolding modelScore tripleScore
-  same-score v w y = ap₂ (listedScore v w y) (k .unseen-is) listed
+  same-score v w y = ap₂ (λ (u : ℤ) (grams : List Gram). backedOff u grams v w y) (k .unseen-is) listed
 
-  -- they are indexed, no two alike, with scores in their range
+  -- they are indexed, no two alike, with numbers in their ranges
   modelled : Model index t
-  modelled = record {
-    indexed = subst (Indexed index) (sym (k .triples-are)) (o .indexed);
-    different = rw (k .triples-are) (o .different);
-    scores-within = λ v w y. subst (Within scoreMost) (sym (same-score v w y)) (triple-within (bookOf loaded) (loaded-ranged loaded (o .passed)) v w y);
-  }
+  modelled =
+      let R = loaded-ranged loaded (o .passed) in
+      record {
+        is-model = record {
+          listing = rw (k .grams-are, k .shorter-are) (o .listing);
+          unseen-within = subst (Within scoreMost) (sym (k .unseen-is)) (R .unseen-within);
+          grams-within = subst (λ (grams : List Gram). (g : Gram) → List·Memᴰ g grams → Within scoreMost (g .s) × Within scoreMost (g .k)) (sym listed) (R .gram-within);
+        };
+        scores-within = λ v w y. subst (Within tripleBound) (sym (same-score v w y)) (triple-within (bookOf loaded) R v w y);
+      }
 
   -- all that a search or a score asks for
   pub prepared : Prepared loaded direction index t
@@ -126,17 +131,14 @@ module _ {loaded : List ℤ} {index : List ℕ} {counts : Counts} {t : Setup} (d
 -- ════ the book is open
 
 -- the places of the entries were put behind what loading left
-pub opened : {loaded : List ℤ} {before after : List ℕ} {triples phrases : ℕ} → Known (bookRefusal loaded) (bookOf loaded) before triples → Placed loaded before after phrases
-    → Open loaded after (record { phrases = phrases; triples = triples })
-opened {triples} r p =
-    let few = r .indexed .room .few in
-    record {
-      passed = r .passes;
-      triples-are = below-triples (p .kept) triples few ∙ r .triples-are;
-      different = ap (noneTwice sameKey) (below-keys (p .kept) triples few) ∙ r .different;
-      indexed = below-indexed (p .kept) (r .indexed);
-      entries-at = p .entries;
-    }
+pub opened : {loaded : List ℤ} {before after : List ℕ} {grams : Grams} {phrases : ℕ} → Known (bookRefusal loaded) (bookOf loaded) before grams → Placed loaded before after phrases
+    → Open loaded after (record { phrases = phrases; grams = grams .count; shorter = grams .shorter })
+opened {grams} r p = record {
+  passed = r .passes;
+  grams-are = below-grams (p .kept) (grams .count) (r .listing .indexed .room .few) ∙ r .grams-are;
+  listing = below-listing (p .kept) (r .listing);
+  entries-at = p .entries;
+}
 
 -- ════ what the questions answer
 

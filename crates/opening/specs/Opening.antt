@@ -1,14 +1,12 @@
 -- What is known of a loaded book once it is open, and what is ready once a direction is begun.
 use Prim.Native.Nat.{ℕ}
 use mathlib.Core.Path.{_≡_}
-use mathlib.Core.Bool.{true}
 use mathlib.Core.List.{List}
 use lib.IntN.{ℤ}
-use Rattle.laws.specs.Lists.{noneTwice}
 use Rattle.meaning.specs.Questions.{_orelse_, number}
 use Rattle.meaning.specs.Book.{Book, bookRefusal, bookOf}
 use Rattle.meaning.specs.Direction.{directionRefusal}
-use Rattle.ngrams.specs.Grams.{keysIn, triplesIn, sameKey, Indexed}
+use Rattle.ngrams.specs.Grams.{gramsIn, Listing}
 use Rattle.book.specs.Entries.{EntriesAt}
 use Rattle.derivation.specs.declared.Setup.{Setup}
 use Rattle.derivation.specs.Prepared.{Prepared}
@@ -18,14 +16,13 @@ use Rattle.opening.specs.declared.Opened.the-variants.{Book as Opens, Re
 use Rattle.opening.specs.declared.Start.{Start}
 use Rattle.opening.specs.declared.Start.the-variants.{Ready, Refused}
 
--- ════ questions 2 to 6
+-- ════ questions 2 to 6 and 20
 
--- they pass: the list has the book's triples as indexed records, and the places of its entries
+-- they pass: the list has the book's n-grams as indexed records, and the places of its entries
 pub record Open (loaded : List ℤ) (index : List ℕ) (counts : Counts) : Type 0 where
   pub passed : bookRefusal loaded ≡ 0
-  pub triples-are : triplesIn index (counts .triples) ≡ bookOf loaded .triples
-  pub different : noneTwice sameKey (keysIn index (counts .triples)) ≡ true
-  pub indexed : Indexed index (counts .triples)
+  pub grams-are : gramsIn index (counts .grams) ≡ bookOf loaded .grams
+  pub listing : Listing index (counts .grams) (counts .shorter)
   pub entries-at : EntriesAt loaded index (counts .phrases)
 
 -- "Any call that takes a loaded book ..: 2 to 6."
@@ -40,9 +37,10 @@ pub record SetupOf (book : Book) (n : ℕ) (counts : Counts) (t : Setup) : Type 
   pub n-is : t .n ≡ n
   pub limit-is : t .limit ≡ book .limit
   pub eta-is : t .eta ≡ book .eta
-  pub unseen-is : t .unseen ≡ book .unseen
   pub phrases-are : t .phrases ≡ counts .phrases
-  pub triples-are : t .triples ≡ counts .triples
+  pub unseen-is : t .model .unseen ≡ book .unseen
+  pub grams-are : t .model .count ≡ counts .grams
+  pub shorter-are : t .model .shorter ≡ counts .shorter
 
 -- "A direction as numbers: 9, 10." Where they pass, the list and the numbers are those of the book and the direction
 abbrev pub BegunAs : List ℤ → List ℕ → List ℕ → Start → Type 0

@@ -1,7 +1,8 @@
-// A loaded book is opened once: questions 2 to 6, the index of its n-grams and the places of its entries. Then a direction is
+// A loaded book is opened once: questions 2 to 6 and 20, the index of its n-grams and the places of its entries. Then a direction is
 // begun: questions 9 and 10, and the numbers that a search or a score works on.
 use book::entries;
 use derivation::Setup;
+use language::LanguageModel;
 use loading::load;
 use loading::load::Loaded;
 use meaning::Checked;
@@ -13,13 +14,14 @@ ghost use Rattle.meaning.specs.Book.{bookRefusal, bookOf};
 ghost use Rattle.book.specs.Entries.{indexSize};
 ghost use Rattle.opening.specs.Opening.{Open, OpenedAs, SetupOf, BegunAs, StartOf};
 
-// How many entries and how many triples a book has.
+// How many entries a book has, how many n-grams, and how many of those are pairs and words.
 pub struct Counts {
     pub phrases: usize,
-    pub triples: usize,
+    pub grams: usize,
+    pub shorter: usize,
 }
 
-// What a book answers to questions 2 to 6: its counts, or the refusal.
+// What a book answers to questions 2 to 6 and 20: its counts, or the refusal.
 pub enum Opened {
     Book(Counts),
     Refused(Refusal),
@@ -31,22 +33,26 @@ pub enum Start {
     Refused(Refusal),
 }
 
-// Questions 2 to 6 of a loaded book. Where they pass, `index` holds what is known of it: its n-grams as indexed records, and
+// Questions 2 to 6 and 20 of a loaded book. Where they pass, `index` holds what is known of it: its n-grams as indexed records, and
 // the places of its entries; after a refusal, what it holds is not said.
 pub fn open_book(book: &[i32], index: &mut [u16]) -> Opened
     requires { ⌜ indexSize ≤ length (now index) ⌝ }
     ensures { λ r. ⌜ OpenedAs (now (book .entry)) (now (index .exit)) r ⌝ }
 {
     match load::load(book, index) {
-        Loaded::Book(triples) => {
+        Loaded::Book(grams) => {
             let phrases = entries::find_entries(book, index);
-            Opened::Book(Counts { phrases, triples })
+            Opened::Book(Counts {
+                phrases,
+                grams: grams.count,
+                shorter: grams.shorter,
+            })
         }
         Loaded::Refused(refusal) => Opened::Refused(refusal),
     }
 }
 
-// The numbers of the B line: the reordering limit, the penalty, and the score of an unseen triple; beside them the counts.
+// The numbers of the B line: the reordering limit, the penalty, and the score of an unseen word; beside them the counts.
 fn setup_of(book: &[i32], n: usize, counts: Counts) -> Setup
     requires { ⌜ bookRefusal (now book) ≡ 0 ⌝ }
     ensures { λ t. ⌜ SetupOf (bookOf (now (book .entry))) n counts t ⌝ }
@@ -58,9 +64,12 @@ fn setup_of(book: &[i32], n: usize, counts: Counts) -> Setup
         n,
         limit,
         eta: eta as i64,
-        unseen: unseen as i64,
         phrases: counts.phrases,
-        triples: counts.triples,
+        model: LanguageModel {
+            count: counts.grams,
+            shorter: counts.shorter,
+            unseen: unseen as i64,
+        },
     }
 }
 
@@ -75,7 +84,7 @@ pub fn begin(book: &[i32], index: &[u16], counts: Counts, direction: &[u16]) -> 
     }
 }
 
-// One book and one direction: 2 to 6, then 9 and 10.
+// One book and one direction: 2 to 6 and 20, then 9 and 10.
 pub fn open_and_begin(book: &[i32], direction: &[u16], index: &mut [u16]) -> Start
     requires { ⌜ indexSize ≤ length (now index) ⌝ }
     ensures { λ r. ⌜ StartOf (now (book .entry)) (now (direction .entry)) (now (index .exit)) r ⌝ }

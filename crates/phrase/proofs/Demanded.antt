@@ -12,7 +12,7 @@ use lib.IntN.{ℤ, pos, negsuc}
 use lib.ListN.{length, take, drop, replicate}
 use lib.Seq.{take-at, drop-at}
 use Rattle.laws.proofs.Tests.{by-test, is-false, clash}
-use Rattle.meaning.specs.Questions.{number}
+use Rattle.meaning.specs.Questions.{number, isOfSteps}
 use Rattle.meaning.specs.Book.{Book, bookOf}
 use Rattle.meaning.specs.Derivation.{targetWords, scoreOf}
 use Rattle.meaning.specs.State.{Key, AreReachable}
@@ -161,7 +161,7 @@ module _ (loaded : List ℤ) (direction : List ℕ) (width : ℤ) (steps₀ step
   small : result ≡ Refused StoreTooSmall → length store₀ / 8 < length (keysEntered book direction (negsuc 0))
   small e =
       let t = turned StoreTooSmall e in
-      let h = Notes.decode-full loaded direction width lent (Notes.refused-late loaded direction width lent 13 (omega arith) t) .0 t in
+      let h = Notes.decode-full loaded direction width lent (Notes.refused-late loaded direction width lent 13 refl t) .0 t in
       le-trans h (entered-few book direction width (keysEntered book direction (negsuc 0)) (entered-all book direction .all-listed))
 
   -- an answer, or the refusal for an empty last set, with the width v
@@ -262,5 +262,5 @@ module _ (loaded : List ℤ) (direction : List ℕ) (steps : List Step) (result 
         invalid-refused = λ b d v.
             let k = Notes.invalid-refused loaded direction b d steps v in
             let r = refused-scored result (k .0) (E ∙ k .2) in
-            (r .0, r .1, (let h = k .1 in let n = r .2 in omega arith));
+            (r .0, r .1, ap isOfSteps (r .2) ∙ k .1);
       }

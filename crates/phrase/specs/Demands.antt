@@ -10,7 +10,7 @@ use mathlib.Core.List.{List, [], List·Memᴰ}
 use lib.IntN.{ℤ, pos, negsuc}
 use lib.Signed.{_≤ℤ_}
 use lib.ListN.{length, take, drop, replicate}
-use Rattle.meaning.specs.Questions.{number}
+use Rattle.meaning.specs.Questions.{number, isOfSearch, isOfSteps}
 use Rattle.meaning.specs.Book.{Book, bookOf, bookRefusal}
 use Rattle.meaning.specs.Direction.{directionRefusal}
 use Rattle.meaning.specs.Derivation.{IsDerivation, isValid, scoreOf, comesBefore}
@@ -43,7 +43,7 @@ module _ (loaded : List ℤ) (direction : List ℕ) (width : ℤ) (steps₀ step
   abbrev IsAnswered : Type 0
   IsAnswered = (a : Answer) × (result ≡ Done a)
 
-  -- the questions before the search, 2 to 6 and 9 to 12, all pass
+  -- the questions before the search, 2 to 6, 20 and 9 to 12, all pass
   abbrev Begins : Type 0
   Begins = beforeSearch loaded direction width lent ≡ 0
 
@@ -58,14 +58,14 @@ module _ (loaded : List ℤ) (direction : List ℕ) (width : ℤ) (steps₀ step
   zeros = replicate (length store₀) (pos 0)
 
   -- Demand 1. "Whatever is handed in is taken, or turned down with exactly the number that the papers give; every call ends; a refusal leaves
-  -- steps and words untouched, the store untouched or, once the search began, all zero." Up to 12 it has not begun
+  -- steps and words untouched, the store untouched or, once the search began, all zero." It began where one of 13 to 15 is given
   pub record Demand1 : Type 0 where
     pub taken : (decodeRefusal loaded direction width lent ≡ 0) ↔ IsAnswered
     pub turned-down : (refusal : Refusal) → (decodeRefusal loaded direction width lent ≡ number refusal) ↔ (result ≡ Refused refusal)
     pub steps-kept : (refusal : Refusal) → result ≡ Refused refusal → steps₁ ≡ steps₀
     pub words-kept : (refusal : Refusal) → result ≡ Refused refusal → words₁ ≡ words₀
-    pub store-kept : (refusal : Refusal) → result ≡ Refused refusal → number refusal ≤ 12 → store₁ ≡ store₀
-    pub store-cleared : (refusal : Refusal) → result ≡ Refused refusal → 12 < number refusal → store₁ ≡ zeros
+    pub store-kept : (refusal : Refusal) → result ≡ Refused refusal → isOfSearch (number refusal) ≡ false → store₁ ≡ store₀
+    pub store-cleared : (refusal : Refusal) → result ≡ Refused refusal → isOfSearch (number refusal) ≡ true → store₁ ≡ zeros
     pub answered-cleared : IsAnswered → store₁ ≡ zeros
 
   -- Demand 2. "What is handed back is a valid derivation as Collins' notes define it, with its score to the last unit; [a proposed list: see
@@ -136,6 +136,6 @@ module _ (loaded : List ℤ) (direction : List ℕ) (steps : List Step) (result 
     -- .. what is valid is scored, where the book and the direction pass ..
     pub valid-scored : bookRefusal loaded ≡ 0 → directionRefusal direction ≡ 0 → isValid book′ direction steps ≡ true → result ≡ Score (scoreOf book′ steps)
     -- .. what gets one of 16 to 19 is not valid, and what is not valid gets one of them
-    pub refused-invalid : (refusal : Refusal) → result ≡ ScoreRefused refusal → 16 ≤ number refusal → isValid book′ direction steps ≡ false
+    pub refused-invalid : (refusal : Refusal) → result ≡ ScoreRefused refusal → isOfSteps (number refusal) ≡ true → isValid book′ direction steps ≡ false
     pub invalid-refused : bookRefusal loaded ≡ 0 → directionRefusal direction ≡ 0 → isValid book′ direction steps ≡ false
-        → (refusal : Refusal) × (result ≡ ScoreRefused refusal) × (16 ≤ number refusal)
+        → (refusal : Refusal) × (result ≡ ScoreRefused refusal) × (isOfSteps (number refusal) ≡ true)

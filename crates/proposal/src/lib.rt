@@ -1,5 +1,6 @@
 // A proposed list of steps on plain numbers, (first, last, entry) for each: questions 16 to 19, and the score.
 use derivation::Setup;
+use derivation::model;
 use derivation::places;
 use derivation::step;
 use meaning::Refusal;
@@ -75,7 +76,8 @@ pub fn ask_step(
         return Asked::Refused(Refusal::JumpTooLong);
     }
     let p = places::phrase_at(book, index, t.phrases, entry);
-    Asked::Next(step::next_state(book, index, t, p, first, last, s))
+    let row = model::row_of(book, index, t, p, s.word1, s.word2);
+    Asked::Next(step::next_state(t, p, row, first, last, s))
 }
 
 // Questions 16 to 19 of the first `count` steps, in their order, and their score where none refuses.

@@ -19,11 +19,11 @@ use Rattle.text.proofs.Lines.{At, at-start, at-end, loaded-end}
 use Rattle.text.proofs.InRow.{NextRow, next-row, emit-few}
 use Rattle.meaning.proofs.Sizes.{four-numbers}
 use Rattle.book.specs.declared.survey.Survey.{Survey}
-use Rattle.book.specs.Survey.{fresh, withLine, noTally, withKind, Few}
+use Rattle.book.specs.Survey.{fresh, withLine, noTally, withKind, gramCount, Few}
 use Rattle.book.specs.Grams.{withGram}
 use Rattle.book.proofs.Counts.{few-none, few-line, few-more}
 use Rattle.book.proofs.Walk.{Seen, seen-none, seen-next, seen-all}
-use Rattle.book.proofs.Triples.{gram-long}
+use Rattle.book.proofs.Gathered.{gram-long}
 use Rattle.reading.specs.Text.{WholeText}
 
 -- the numbers of the line at `at`
@@ -81,7 +81,7 @@ module _ {text : List ℕ} {index₀ tally index : List ℕ} {row row′ : List 
 
     -- a line that is
     module _ (e : isWhole InText (numbersAt text at) ≡ true) where
-      noted-next : isBookText text ≡ true → Noted text index₀ (withLine acc (numbersAt text at)) (withKind tally (numbersAt text at)) (withGram index (getD tally 3 0) (numbersAt text at)) (count + r .count) (r .end)
+      noted-next : isBookText text ≡ true → Noted text index₀ (withLine acc (numbersAt text at)) (withKind tally (numbersAt text at)) (withGram index (gramCount tally) (numbersAt text at)) (count + r .count) (r .end)
       noted-next t = let p = w .noted t in let n = row-next t in record {
         line = n .then;
         seen = seen-next (p .seen) (w .few .each-kind) (n .lines);
@@ -90,7 +90,7 @@ module _ {text : List ℕ} {index₀ tally index : List ℕ} {row row′ : List 
       }
 
       -- it has four bytes at least: so even of the longest text there are not too many lines to count
-      pub walk-next : Walked text index₀ (withLine acc (numbersAt text at)) (withKind tally (numbersAt text at)) (withGram index (getD tally 3 0) (numbersAt text at)) row′ (count + r .count) (r .end)
+      pub walk-next : Walked text index₀ (withLine acc (numbersAt text at)) (withKind tally (numbersAt text at)) (withGram index (gramCount tally) (numbersAt text at)) row′ (count + r .count) (r .end)
       walk-next =
           let four = four-numbers InText (numbersAt text at) e in
           let most = emit-few true Line (drop at text) in
@@ -100,7 +100,7 @@ module _ {text : List ℕ} {index₀ tally index : List ℕ} {row row′ : List 
             within = f .within g;
             few = few-more (few-line acc tally (numbersAt text at) (at / 2) (w .few)) (omega (arith, four, most, f .long g));
             short = omega (arith, w .short, most, f .long g, f .counted g);
-            long = gram-long index (numbersAt text at) (getD tally 3 0) ∙ w .long;
+            long = gram-long index (numbersAt text at) (gramCount tally) ∙ w .long;
             places = f .same ∙ w .places;
           }
 

@@ -24,7 +24,7 @@ enum TextSurvey {
     Broken,
 }
 
-// Surveys a text, whatever it is; `index` gets the records of its T lines, and the tally, all zero before, how many lines there
+// Surveys a text, whatever it is; `index` gets the records of its n-grams, and the tally, all zero before, how many lines there
 // are of each kind. Where a line is not good, or not whole, what the two hold afterwards is not said. No whole line has more
 // than 20 numbers.
 fn survey_text(text: &[u8], index: &mut [u16], tally: &mut [usize]) -> TextSurvey
@@ -69,7 +69,7 @@ fn refusal_of(text: &[u8]) -> Refusal
     Refusal::BookText
 }
 
-// The answer of questions 2 to 6, with the count of the numbers where none refuses.
+// The answer of questions 2 to 6 and 20, with the count of the numbers where none refuses.
 fn counted(loaded: Loaded, count: usize) -> Read
     ensures { λ r. ⌜ r ≡ countedAs loaded count ⌝ }
 {

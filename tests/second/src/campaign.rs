@@ -95,7 +95,7 @@ fn check_answer(list: &[i32], book: &Book, direction: &[u16], answer: &Answer) {
     );
     assert_eq!(plain::words_of(book, &answer.steps), answer.words);
     assert_eq!(score(list, direction, &answer.steps), Ok(answer.score));
-    assert!(answer.score.abs() <= 298_240_000);
+    assert!(answer.score.abs() <= BOUND);
 }
 
 /// A decode, from question 13 on, against the plain sets: the same answer, or the same refusal.
@@ -315,7 +315,16 @@ fn reading_round(rng: &mut Rng, shape: &Shape, tally: &mut Tally, large: bool) {
     let triples: gen::Lines = (book.triples.iter())
         .map(|t| vec![3, t.v as i64, t.w as i64, t.y as i64, t.s as i64])
         .collect();
-    for (kind, records) in [(2, phrases), (3, triples)] {
+    let words: gen::Lines = (book.words.iter())
+        .map(|u| vec![4, u.y as i64, u.listed.s as i64, u.listed.k as i64])
+        .collect();
+    let pairs: gen::Lines = (book.pairs.iter())
+        .map(|d| {
+            let (w, y) = (d.w as i64, d.y as i64);
+            vec![5, w, y, d.listed.s as i64, d.listed.k as i64]
+        })
+        .collect();
+    for (kind, records) in [(2, phrases), (3, triples), (4, words), (5, pairs)] {
         assert_eq!(
             records,
             lines
@@ -327,7 +336,7 @@ fn reading_round(rng: &mut Rng, shape: &Shape, tally: &mut Tally, large: bool) {
     }
 
     let good_direction = gen::direction(rng, shape);
-    for code in 1..=6 {
+    for code in [1, 2, 3, 4, 5, 6, 20] {
         if code == 5 && !large {
             continue;
         }
@@ -359,8 +368,14 @@ fn reading_round(rng: &mut Rng, shape: &Shape, tally: &mut Tally, large: bool) {
         }
     }
     if large {
-        for (p, t) in [(4096, 8192), (4096, 0), (0, 8192)] {
-            let lines = gen::lines_of(rng, shape, p, t);
+        for counts in [
+            [4096, 8192, 8192, 8192],
+            [4096, 0, 0, 0],
+            [0, 8192, 0, 0],
+            [0, 0, 8192, 0],
+            [0, 0, 0, 8192],
+        ] {
+            let lines = gen::lines_of(rng, shape, counts);
             let result = read_book(&gen::text(&lines), usize::MAX);
             tally.reply("read_book, as many lines as allowed", &result);
             assert_eq!(result, Ok(gen::loaded(&lines)));
@@ -434,7 +449,7 @@ fn reading_round(rng: &mut Rng, shape: &Shape, tally: &mut Tally, large: bool) {
     let book_code = if rng.chance(3, 4) {
         0
     } else {
-        rng.pick(&[1, 2, 3, 4, 6])
+        rng.pick(&[1, 2, 3, 4, 6, 20])
     };
     let direction_code = if rng.chance(3, 4) {
         0

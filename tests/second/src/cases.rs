@@ -4,6 +4,7 @@
 //! that program is to print.
 
 use crate::gen::DecodeCase;
+use crate::ways::Ways;
 use crate::{plain, Answer, Step};
 use std::fmt::{Display, Write};
 use std::str::{FromStr, SplitWhitespace};
@@ -11,7 +12,7 @@ use std::str::{FromStr, SplitWhitespace};
 /// What the program has room for: bytes of a line and of a text, numbers of a book, words of a direction.
 pub const LINE: usize = 200_000;
 pub const TEXT: usize = 120_000;
-pub const BOOK: usize = 66_000;
+pub const BOOK: usize = 140_000;
 pub const DIRECTION: usize = 128;
 /// How many places each lent list has; the case says how many of them are lent.
 pub const READ: usize = 41_000;
@@ -139,6 +140,8 @@ pub struct Said {
     pub text: String,
     /// Several derivations have a decode's score, the best of all (looked for where there are few derivations).
     pub shared: bool,
+    /// How the target words of a successful scoring or decode were scored.
+    pub ways: Ways,
 }
 
 fn said<T>(call: &'static str, reply: &Result<T, u8>, text: String) -> Said {
@@ -148,6 +151,7 @@ fn said<T>(call: &'static str, reply: &Result<T, u8>, text: String) -> Said {
         code,
         text,
         shared: false,
+        ways: Ways::default(),
     }
 }
 
@@ -201,11 +205,11 @@ fn target_words(book: &[i32], entry: usize) -> Said {
     said("target_words", &Ok(()), format!("N,{size}{row}"))
 }
 
-/// Up to 12 no lent list changes; after 13, 14, 15 and success the store is all zero.
+/// After 13, 14, 15 and success the store is all zero; after the other refusals no lent list is changed.
 fn decoded(case: &DecodeCase, fill: u16, reply: &Result<Answer, u8>) -> Said {
     let (head, zeros, steps, words): (_, _, &[Step], &[u16]) = match reply {
-        Err(k) if *k <= 12 => (format!("R,{k}"), 0, &[], &[]),
-        Err(k) => (format!("R,{k}"), case.store_len, &[], &[]),
+        Err(k @ 13..=15) => (format!("R,{k}"), case.store_len, &[], &[]),
+        Err(k) => (format!("R,{k}"), 0, &[], &[]),
         Ok(a) => {
             let (s, w) = (a.steps.len(), a.words.len());
             let head = format!("A,{} N,{s} N,{w} N,{}", a.score, a.states);
@@ -223,10 +227,36 @@ fn decoded(case: &DecodeCase, fill: u16, reply: &Result<Answer, u8>) -> Said {
         + &lent("steps", &over(steps, &no_steps), &no_steps)
         + &lent("words", &over(words, &no_words), &no_words)
         + &lent("store", &over(vec![0; zeros], &full), &full);
-    let shared = reply.as_ref().is_ok_and(|a| shared(case, a.score));
+    let of = |a: &Answer| (shared(case, a.score), Ways::of(&case.book, &a.steps));
+    let (shared, ways) = reply.as_ref().map_or_else(|_| Default::default(), of);
     Said {
         shared,
+        ways,
         ..said("decode", reply, text)
+    }
+}
+
+/// A scoring against the plain walk, from question 16 on.
+fn score_plainly(book: &[i32], direction: &[u16], steps: &[Step], reply: Result<i64, u8>) {
+    if let (Ok(book), Ok(())) = (crate::check_book(book), crate::check_direction(direction)) {
+        let plainly = match plain::proposal_verdict(&book, direction, steps) {
+            0 => Ok(plain::score_of(&book, steps)),
+            code => Err(code),
+        };
+        assert_eq!(reply, plainly);
+    }
+}
+
+fn scored(case: &mut Case) -> Said {
+    let (book, direction) = (case.list::<i32>(BOOK), case.list::<u16>(DIRECTION));
+    let steps = case.steps();
+    let reply = crate::score(&book, &direction, &steps);
+    score_plainly(&book, &direction, &steps, reply);
+    let text = reply.map_or_else(|k| format!("R,{k}"), |z| z.to_string());
+    let ways = reply.map_or_else(|_| Ways::default(), |_| Ways::of(&book, &steps));
+    Said {
+        ways,
+        ..said("score", &reply, text)
     }
 }
 
@@ -258,12 +288,7 @@ fn answer(case: &mut Case) -> Said {
             checked("check_book", reply)
         }
         4 => target_words(&case.list::<i32>(BOOK), case.number()),
-        5 => {
-            let (book, direction) = (case.list::<i32>(BOOK), case.list::<u16>(DIRECTION));
-            let reply = crate::score(&book, &direction, &case.steps());
-            let text = reply.map_or_else(|k| format!("R,{k}"), |z| z.to_string());
-            said("score", &reply, text)
-        }
+        5 => scored(case),
         6 => {
             let asked = case.decode();
             decoded(&asked, case.number(), &asked.answer())
@@ -275,6 +300,12 @@ fn answer(case: &mut Case) -> Said {
         8 => rendered(case),
         k => panic!("call {k}"),
     }
+}
+
+/// The decode that a line asks for, if it is one.
+pub fn decode_of(line: &str) -> Option<DecodeCase> {
+    let mut case = Case(line.split_once('|')?.1.split_whitespace());
+    (case.number::<u8>() == 6).then(|| case.decode())
 }
 
 /// What the second decoder says to a line, with the line's label.

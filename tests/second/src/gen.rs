@@ -1,7 +1,7 @@
 //! Deterministic random inputs: books as lines, as loaded lists and as text, directions, widths,
 //! list lengths and proposals; good ones, and ones damaged so that a given question refuses them.
 
-use crate::{decode, plain, Answer, Book, Step};
+use crate::{decode, plain, Answer, Book, Step, WIDEST};
 use std::collections::HashSet;
 
 /// SplitMix64.
@@ -36,7 +36,7 @@ impl Rng {
     }
 }
 
-/// A book as lines: each the kind (1, 2, 3) and then its numbers.
+/// A book as lines: each the kind (1 to 5) and then its numbers.
 pub type Lines = Vec<Vec<i64>>;
 
 /// What kind of books and directions are made.
@@ -49,6 +49,8 @@ pub struct Shape {
     pub target_words: i64,
     pub max_phrases: usize,
     pub max_triples: usize,
+    pub max_pairs: usize,
+    pub max_words: usize,
     pub max_source: i64,
     pub max_target: i64,
     pub max_direction: usize,
@@ -77,6 +79,8 @@ impl Shape {
             target_words,
             max_phrases: 9,
             max_triples: rng.pick(&[0, 4, 12, 30]),
+            max_pairs: rng.pick(&[0, 3, 8, 8, 8, 20, 20, 20]),
+            max_words: rng.pick(&[0, 2, 4, 4, 4, 7, 7, 7]),
             max_source: rng.pick(&[1, 2, 3, 3, 8]),
             max_target: rng.pick(&[1, 2, 3, 3, 8]),
             max_direction: 6,
@@ -102,6 +106,8 @@ impl Shape {
         shape.target_base = rng.pick(&[1, 101, 65_536 - shape.target_words]);
         shape.max_phrases = 40;
         shape.max_triples = 200;
+        shape.max_pairs = rng.pick(&[0, 20, 100, 100]);
+        shape.max_words = rng.pick(&[0, 6, 13, 13]);
         shape.max_direction = rng.pick(&[8, 10, 12, 32]);
         shape
     }
@@ -121,6 +127,25 @@ impl Shape {
             1 => rng.between(-1_000_000, 1_000_000),
             2 => rng.between(-9, 9),
             _ => rng.between(-3_000, 0),
+        }
+    }
+    /// A back-off weight: of either sign, and now and then at an end of the range.
+    fn weight(&self, rng: &mut Rng) -> i64 {
+        if !self.ties.is_empty() {
+            return rng.pick(self.ties);
+        }
+        match rng.below(8) {
+            0 => rng.pick(&[-1_000_000, 1_000_000, 0, -999_999, 999_999]),
+            1 => rng.between(-1_000_000, 1_000_000),
+            _ => rng.between(-1_500, 1_500),
+        }
+    }
+    /// The start symbol now and then, else a target word.
+    fn target_or_start(&self, rng: &mut Rng) -> i64 {
+        if rng.chance(1, 4) {
+            0
+        } else {
+            self.target(rng)
         }
     }
     fn eta(&self, rng: &mut Rng) -> i64 {
@@ -144,12 +169,29 @@ pub fn lines(rng: &mut Rng, shape: &Shape) -> Lines {
         1 => 32,
         _ => rng.between(0, shape.max_direction as i64),
     };
+    let mut body = word_for_word(rng, shape);
+    more_phrases(rng, shape, &mut body);
+    triple_lines(rng, shape, &mut body);
+    pair_lines(rng, shape, &mut body);
+    word_lines(rng, shape, &mut body);
+    // P, T, U and D lines in any mixture.
+    if rng.chance(1, 2) {
+        for k in (1..body.len()).rev() {
+            let j = rng.below(k + 1);
+            body.swap(k, j);
+        }
+    }
+    let mut all = vec![vec![1, d, shape.eta(rng), shape.score(rng)]];
+    all.extend(body);
+    all
+}
+
+/// A word-for-word entry for most source words, so that derivations are common.
+fn word_for_word(rng: &mut Rng, shape: &Shape) -> Lines {
     let mut body: Lines = Vec::new();
-    // A word-for-word entry for most source words, so that derivations are common.
-    let mut phrases = 0;
     if rng.chance(3, 4) {
         for k in 0..shape.source_words {
-            if phrases < shape.max_phrases && rng.chance(7, 8) {
+            if body.len() < shape.max_phrases && rng.chance(7, 8) {
                 let b = rng.between(1, shape.max_target.min(2));
                 let mut line = vec![2, 1, b, shape.source_base + k];
                 for _ in 0..b {
@@ -157,13 +199,17 @@ pub fn lines(rng: &mut Rng, shape: &Shape) -> Lines {
                 }
                 line.push(shape.score(rng));
                 body.push(line);
-                phrases += 1;
             }
         }
     }
+    body
+}
+
+/// More P lines, up to a number of them.
+fn more_phrases(rng: &mut Rng, shape: &Shape, body: &mut Lines) {
     let goal = rng.below(shape.max_phrases + 1);
     let one_of = if shape.ties.is_empty() { 20 } else { 6 };
-    while phrases < goal {
+    while body.len() < goal {
         if !body.is_empty() && rng.chance(1, one_of) {
             // An equal entry.
             let line = body[rng.below(body.len())].clone();
@@ -185,8 +231,10 @@ pub fn lines(rng: &mut Rng, shape: &Shape) -> Lines {
             line.push(shape.score(rng));
             body.push(line);
         }
-        phrases += 1;
     }
+}
+
+fn triple_lines(rng: &mut Rng, shape: &Shape, body: &mut Lines) {
     let mut seen = HashSet::new();
     for _ in 0..rng.below(shape.max_triples + 1) {
         let y = shape.target(rng);
@@ -200,16 +248,26 @@ pub fn lines(rng: &mut Rng, shape: &Shape) -> Lines {
             body.push(vec![3, v, w, y, shape.score(rng)]);
         }
     }
-    // P and T lines in any mixture.
-    if rng.chance(1, 2) {
-        for k in (1..body.len()).rev() {
-            let j = rng.below(k + 1);
-            body.swap(k, j);
+}
+
+fn pair_lines(rng: &mut Rng, shape: &Shape, body: &mut Lines) {
+    let mut seen = HashSet::new();
+    for _ in 0..rng.below(shape.max_pairs + 1) {
+        let (w, y) = (shape.target_or_start(rng), shape.target(rng));
+        if seen.insert((w, y)) {
+            body.push(vec![5, w, y, shape.score(rng), shape.weight(rng)]);
         }
     }
-    let mut all = vec![vec![1, d, shape.eta(rng), shape.score(rng)]];
-    all.extend(body);
-    all
+}
+
+fn word_lines(rng: &mut Rng, shape: &Shape, body: &mut Lines) {
+    let mut seen = HashSet::new();
+    for _ in 0..rng.below(shape.max_words + 1) {
+        let y = shape.target_or_start(rng);
+        if seen.insert(y) {
+            body.push(vec![4, y, shape.score(rng), shape.weight(rng)]);
+        }
+    }
 }
 
 /// A P line that says what two say one after the other, at the same score; the first of them where
@@ -229,34 +287,31 @@ fn put_together(one: &[i64], other: &[i64]) -> Vec<i64> {
     [sizes, source, target, vec![score]].concat()
 }
 
-/// A good book of just so many P and T lines (each T line with words of its own).
-pub fn lines_of(rng: &mut Rng, shape: &Shape, phrases: usize, triples: usize) -> Lines {
-    let mut all = vec![vec![
-        1,
-        rng.between(0, 32),
-        shape.eta(rng),
-        shape.score(rng),
-    ]];
+/// A good book of just so many P, T, U and D lines (each T, U and D line with words of its own).
+pub fn lines_of(rng: &mut Rng, shape: &Shape, counts: [usize; 4]) -> Lines {
+    let [phrases, triples, words, pairs] = counts;
+    let d = rng.between(0, 32);
+    let mut all = vec![vec![1, d, shape.eta(rng), shape.score(rng)]];
     for _ in 0..phrases {
-        all.push(vec![
-            2,
-            1,
-            1,
-            shape.source(rng),
-            shape.target(rng),
-            shape.score(rng),
-        ]);
+        let (x, y) = (shape.source(rng), shape.target(rng));
+        all.push(vec![2, 1, 1, x, y, shape.score(rng)]);
     }
-    for k in 0..triples as i64 {
-        all.push(vec![
-            3,
-            k / 256,
-            k % 256,
-            shape.target(rng),
-            shape.score(rng),
-        ]);
+    for (kind, count) in [(3, triples), (4, words), (5, pairs)] {
+        for k in 0..count as i64 {
+            all.push(own_words(rng, shape, kind, k));
+        }
     }
     all
+}
+
+/// The k-th of up to 65,536 T, U or D lines, with words that no other of them has.
+fn own_words(rng: &mut Rng, shape: &Shape, kind: i64, k: i64) -> Vec<i64> {
+    let s = shape.score(rng);
+    match kind {
+        3 => vec![3, k / 256, k % 256, shape.target(rng), s],
+        4 => vec![4, k, s, shape.weight(rng)],
+        _ => vec![5, k / 256, 1 + k % 256, s, shape.weight(rng)],
+    }
 }
 
 /// Lines as a loaded list.
@@ -271,7 +326,9 @@ pub fn text(lines: &Lines) -> Vec<u8> {
         out.push(match line[0] {
             1 => 'B',
             2 => 'P',
-            _ => 'T',
+            3 => 'T',
+            4 => 'U',
+            _ => 'D',
         });
         for x in &line[1..] {
             out.push_str(&format!(",{x}"));
@@ -281,84 +338,108 @@ pub fn text(lines: &Lines) -> Vec<u8> {
     out.into_bytes()
 }
 
-/// Damages lines so that question `code` (3, 4, 5 or 6) refuses them, whatever is wrong by the
+/// Damages lines so that question `code` (3, 4, 5, 6 or 20) refuses them, whatever is wrong by the
 /// later ones. `in_text`: the numbers must still be of 1 to 7 digits.
 pub fn damage_lines(rng: &mut Rng, shape: &Shape, lines: &mut Lines, code: u8, in_text: bool) {
     match code {
-        3 => {
-            let kind = rng.below(4);
-            if kind == 0 && lines.len() > 1 {
-                lines.remove(0);
-            } else if kind == 1 && lines.len() > 1 {
-                let first = lines.remove(0);
-                let at = 1 + rng.below(lines.len());
-                lines.insert(at, first);
-            } else if kind == 2 && !in_text {
-                lines.clear();
-            } else {
-                let at = rng.below(lines.len() + 1);
-                let line = vec![1, rng.between(0, 32), 0, 0];
-                lines.insert(at, line);
-            }
-        }
-        4 => {
-            let k = rng.below(lines.len());
-            let line = &mut lines[k];
-            let far = if in_text { 9_999_999 } else { i32::MAX as i64 };
-            let low = if in_text { -9_999_999 } else { i32::MIN as i64 };
-            let (at, bad): (usize, Vec<i64>) = match line[0] {
-                1 => match rng.below(3) {
-                    0 => (1, vec![-1, 33, far, low]),
-                    1 => (2, vec![-10_001, 10_001, far, low]),
-                    _ => (3, vec![-1_000_001, 1_000_001, far, low]),
-                },
-                2 => {
-                    let g = line.len() - 1;
-                    let at = 3 + rng.below(g - 2);
-                    if at == g {
-                        (g, vec![-1_000_001, 1_000_001, far, low])
-                    } else {
-                        (at, vec![0, -1, 65_536, far, low])
-                    }
-                }
-                _ => match rng.below(4) {
-                    0 => (1, vec![-1, 65_536, far, low]),
-                    1 => (2, vec![-1, 65_536, far, low]),
-                    2 => (3, vec![0, -1, 65_536, far, low]),
-                    _ => (4, vec![-1_000_001, 1_000_001, far, low]),
-                },
-            };
-            line[at] = rng.pick(&bad);
-        }
-        5 => {
-            if rng.chance(1, 2) {
-                for _ in 0..4097 {
-                    lines.push(vec![2, 1, 1, shape.source(rng), shape.target(rng), 0]);
-                }
-            } else {
-                lines.retain(|line| line[0] != 3);
-                for k in 0..8193 {
-                    lines.push(vec![3, k / 256, k % 256, shape.target(rng), 0]);
-                }
-            }
-        }
-        6 => {
-            let triples: Vec<usize> = (0..lines.len()).filter(|&k| lines[k][0] == 3).collect();
-            let mut line = if triples.is_empty() {
-                let line = vec![3, 0, 0, shape.target(rng), shape.score(rng)];
-                lines.push(line.clone());
-                line
-            } else {
-                lines[rng.pick(&triples)].clone()
-            };
-            if rng.chance(1, 2) {
-                line[4] = shape.score(rng);
-            }
-            let at = 1 + rng.below(lines.len());
-            lines.insert(at, line);
+        3 => damage_lines_3(rng, lines, in_text),
+        4 => damage_lines_4(rng, lines, in_text),
+        5 => too_many(rng, shape, lines),
+        6 => repeat_words(rng, shape, lines, 3),
+        20 => {
+            let kind = rng.pick(&[4, 5]);
+            repeat_words(rng, shape, lines, kind);
         }
         _ => panic!("no such damage to lines"),
     }
+}
+
+fn damage_lines_3(rng: &mut Rng, lines: &mut Lines, in_text: bool) {
+    let kind = rng.below(4);
+    if kind == 0 && lines.len() > 1 {
+        lines.remove(0);
+    } else if kind == 1 && lines.len() > 1 {
+        let first = lines.remove(0);
+        let at = 1 + rng.below(lines.len());
+        lines.insert(at, first);
+    } else if kind == 2 && !in_text {
+        lines.clear();
+    } else {
+        let at = rng.below(lines.len() + 1);
+        let line = vec![1, rng.between(0, 32), 0, 0];
+        lines.insert(at, line);
+    }
+}
+
+fn damage_lines_4(rng: &mut Rng, lines: &mut Lines, in_text: bool) {
+    let k = rng.below(lines.len());
+    let line = &mut lines[k];
+    let first = if line[0] == 2 { 3 } else { 1 };
+    let at = first + rng.below(line.len() - first);
+    let left = line.len() - 1 - at;
+    // Just past the range.
+    let mut bad = match (line[0], at) {
+        (1, 1) => vec![-1, 33],
+        (1, 2) => vec![-10_001, 10_001],
+        (3, 1 | 2) | (4 | 5, 1) => vec![-1, 65_536],
+        (4 | 5, _) if left < 2 => vec![-1_000_001, 1_000_001],
+        _ if left == 0 => vec![-1_000_001, 1_000_001],
+        _ => vec![0, -1, 65_536],
+    };
+    // Far past it.
+    bad.extend(if in_text {
+        [9_999_999, -9_999_999]
+    } else {
+        [i32::MAX as i64, i32::MIN as i64]
+    });
+    line[at] = rng.pick(&bad);
+}
+
+/// One line more of some kind than is allowed, or more.
+fn too_many(rng: &mut Rng, shape: &Shape, lines: &mut Lines) {
+    let kind = rng.pick(&[2, 2, 3, 4, 5]);
+    if kind == 2 {
+        for _ in 0..4097 {
+            lines.push(vec![2, 1, 1, shape.source(rng), shape.target(rng), 0]);
+        }
+        return;
+    }
+    lines.retain(|line| line[0] != kind);
+    for k in 0..8193 {
+        let mut line = own_words(rng, shape, kind, k);
+        // Short numbers: the text is long enough.
+        let scores = if kind == 3 { 1 } else { 2 };
+        let at = line.len() - scores;
+        line[at..].fill(0);
+        lines.push(line);
+    }
+}
+
+/// A line of that kind (3, 4 or 5) twice, with the same scores or with others.
+fn repeat_words(rng: &mut Rng, shape: &Shape, lines: &mut Lines, kind: i64) {
+    let those: Vec<usize> = (0..lines.len()).filter(|&k| lines[k][0] == kind).collect();
+    let mut line = if those.is_empty() {
+        let y = shape.target(rng);
+        let line = match kind {
+            3 => vec![3, 0, 0, y, shape.score(rng)],
+            4 => vec![4, rng.pick(&[0, y]), shape.score(rng), shape.weight(rng)],
+            _ => vec![5, rng.pick(&[0, y]), y, shape.score(rng), shape.weight(rng)],
+        };
+        lines.push(line.clone());
+        line
+    } else {
+        lines[rng.pick(&those)].clone()
+    };
+    if rng.chance(1, 2) {
+        let last = line.len() - 1;
+        line[last] = shape.score(rng);
+    }
+    if kind != 3 && rng.chance(1, 2) {
+        let last = line.len() - 1;
+        line[last - 1] = shape.score(rng);
+    }
+    let at = 1 + rng.below(lines.len());
+    lines.insert(at, line);
 }
 
 /// Damages a loaded list so that question 2 refuses it.
@@ -370,7 +451,7 @@ pub fn damage_loaded_2(rng: &mut Rng, lines: &Lines) -> Vec<i32> {
         starts.push(at);
         at += line.len();
     }
-    let odd = [0, 4, -1, 66, 80, 84, i32::MAX, i32::MIN];
+    let odd = [0, 6, -1, 66, 68, 80, 84, 85, i32::MAX, i32::MIN];
     let phrases: Vec<usize> = (0..lines.len())
         .filter(|&k| lines[k][0] == 2)
         .map(|k| starts[k])
@@ -389,7 +470,7 @@ pub fn damage_loaded_2(rng: &mut Rng, lines: &Lines) -> Vec<i32> {
         _ => list.push(if rng.chance(1, 2) {
             rng.pick(&odd)
         } else {
-            rng.between(1, 3) as i32
+            rng.between(1, 5) as i32
         }),
     }
     list
@@ -448,7 +529,7 @@ pub fn damage_text_1(rng: &mut Rng, text: &mut Vec<u8>) {
         }
         2 => insert(text, rng.pick(&starts), b"\n"),
         3 => text.push(b'\n'),
-        4 => text[rng.pick(&starts)] = rng.pick(b"bptACX0 ,\r\x00\xff-"),
+        4 => text[rng.pick(&starts)] = rng.pick(b"bptudACEVX0 ,\r\x00\xff-"),
         5 => insert(text, rng.pick(&starts), b"B\n"),
         6 => insert(text, rng.pick(&commas), b","),
         7 => insert(text, rng.pick(&ends), b","),
@@ -474,38 +555,41 @@ pub fn damage_text_1(rng: &mut Rng, text: &mut Vec<u8>) {
     }
 }
 
-/// A loaded book of which 2 to 6 say `code` (0: good).
+/// Now and then something that a question after `code` refuses too.
+fn damage_later(rng: &mut Rng, shape: &Shape, lines: &mut Lines, code: u8, in_text: bool) {
+    let order = [1, 2, 3, 4, 5, 6, 20];
+    let after = order.iter().position(|&c| c == code).map_or(0, |k| k + 1);
+    let later: Vec<u8> = (order[after..].iter().copied())
+        .filter(|c| [3, 4, 6, 20].contains(c))
+        .collect();
+    if !later.is_empty() && rng.chance(1, 3) {
+        let code = rng.pick(&later);
+        damage_lines(rng, shape, lines, code, in_text);
+    }
+}
+
+/// A loaded book of which 2 to 6 and 20 say `code` (0: good).
 pub fn book_saying(rng: &mut Rng, shape: &Shape, code: u8) -> Vec<i32> {
     let mut all = lines(rng, shape);
     match code {
         0 => loaded(&all),
         2 => {
-            if rng.chance(1, 3) {
-                let later = rng.pick(&[3, 4, 6]);
-                damage_lines(rng, shape, &mut all, later, false);
-            }
+            damage_later(rng, shape, &mut all, code, false);
             damage_loaded_2(rng, &all)
         }
         _ => {
-            // Now and then something a later question would refuse too.
-            if code < 6 && rng.chance(1, 3) {
-                let later: Vec<u8> = [4, 6].into_iter().filter(|&c| c > code).collect();
-                let later = rng.pick(&later);
-                damage_lines(rng, shape, &mut all, later, false);
-            }
+            damage_later(rng, shape, &mut all, code, false);
             damage_lines(rng, shape, &mut all, code, false);
             loaded(&all)
         }
     }
 }
 
-/// A book's text of which 1 to 6 say `code` (0: good).
+/// A book's text of which 1 to 6 and 20 say `code` (0: good).
 pub fn text_saying(rng: &mut Rng, shape: &Shape, code: u8) -> Vec<u8> {
     let mut all = lines(rng, shape);
-    if (1..6).contains(&code) && rng.chance(1, 3) {
-        let later: Vec<u8> = [3, 4, 6].into_iter().filter(|&c| c > code).collect();
-        let later = rng.pick(&later);
-        damage_lines(rng, shape, &mut all, later, true);
+    if code != 0 {
+        damage_later(rng, shape, &mut all, code, true);
     }
     match code {
         0 => text(&all),
@@ -531,7 +615,7 @@ pub fn mangle_text(rng: &mut Rng, text: &mut Vec<u8>) {
         let byte = if rng.chance(1, 8) {
             rng.draw() as u8
         } else {
-            rng.pick(b"0123456789,-\n\nBPT")
+            rng.pick(b"0123456789,-\n\nBPTUD")
         };
         change_anywhere(rng, text, byte);
     }
@@ -688,7 +772,7 @@ pub fn width(rng: &mut Rng, shape: &Shape) -> i64 {
     match rng.below(8) {
         0 | 1 => -1,
         2 => 0,
-        3 => rng.pick(&[596_480_000, 596_479_999, i64::MAX, i64::MAX - 1]),
+        3 => rng.pick(&[WIDEST, WIDEST - 1, i64::MAX, i64::MAX - 1]),
         _ if !shape.ties.is_empty() => rng.between(0, 4),
         4 => rng.between(0, 2_000_000),
         _ => rng.between(0, 4_000),
@@ -699,7 +783,7 @@ pub fn width(rng: &mut Rng, shape: &Shape) -> i64 {
 pub fn bad_width(rng: &mut Rng) -> i64 {
     match rng.below(3) {
         0 => -2,
-        1 => rng.pick(&[i64::MIN, i64::MIN + 1, -10, -596_480_000]),
+        1 => rng.pick(&[i64::MIN, i64::MIN + 1, -10, -WIDEST]),
         _ => -2 - rng.below(1_000_000) as i64,
     }
 }
@@ -754,11 +838,11 @@ impl DecodeCase {
     }
 }
 
-/// A call of decode, now and then with things that 2 to 6 and 9 to 13 refuse (one or more).
+/// A call of decode, now and then with things that 2 to 6, 20 and 9 to 13 refuse (one or more).
 pub fn decode_case(rng: &mut Rng, shape: &Shape) -> DecodeCase {
     let mut book = match rng.below(30) {
         0 => {
-            let code = rng.pick(&[2, 3, 4, 6]);
+            let code = rng.pick(&[2, 3, 4, 6, 20]);
             book_saying(rng, shape, code)
         }
         1 => {

@@ -1,5 +1,6 @@
-//! A second decoder, written from the papers alone (01-scope.md, ticket 1 of 02-change-requests.md,
-//! and Collins' notes 000, 001, 002). Standard library only. Refusals are the question numbers of 01.
+//! A second decoder, written from the papers alone (01-scope.md, tickets 1 and 2 of
+//! 02-change-requests.md, and Collins' notes 000, 001, 002). Standard library only. Refusals are the
+//! question numbers of 01 and 02.
 
 use std::collections::HashMap;
 
@@ -9,6 +10,7 @@ pub mod gen;
 pub mod plain;
 pub mod random_cases;
 pub mod rounds;
+pub mod ways;
 
 pub use plain::all_derivations;
 
@@ -16,10 +18,13 @@ pub use plain::all_derivations;
 pub type Step = (u16, u16, u16);
 
 pub const MAX_PHRASES: usize = 4096;
-pub const MAX_TRIPLES: usize = 8192;
+/// T lines, U lines and D lines: each so many.
+pub const MAX_SCORES: usize = 8192;
 pub const MAX_DIRECTION: usize = 32;
+/// No score passes this on either side of 0.
+pub const BOUND: i64 = 810_240_000;
 /// Twice the bound on scores: with this width nothing is pruned.
-pub const WIDEST: i64 = 596_480_000;
+pub const WIDEST: i64 = 2 * BOUND;
 
 /// One P line.
 #[derive(Clone, Debug, PartialEq, Eq)]
@@ -35,6 +40,25 @@ pub struct Phrase {
 }
 
 impl Phrase {
+    /// The record of a P line that begins there in the loaded book.
+    fn of(line: &[i32], at: usize) -> Phrase {
+        let (a, b) = (line[1] as usize, line[2] as usize);
+        let mut phrase = Phrase {
+            source: [0; 8],
+            source_len: a as u8,
+            target: [0; 8],
+            target_len: b as u8,
+            g: line[3 + a + b],
+            target_at: at + 3 + a,
+        };
+        for (to, &from) in phrase.source.iter_mut().zip(&line[3..3 + a]) {
+            *to = from as u16;
+        }
+        for (to, &from) in phrase.target.iter_mut().zip(&line[3 + a..3 + a + b]) {
+            *to = from as u16;
+        }
+        phrase
+    }
     pub fn source(&self) -> &[u16] {
         &self.source[..self.source_len as usize]
     }
@@ -52,8 +76,30 @@ pub struct Triple {
     pub s: i32,
 }
 
+/// What a D or a U line says: a score, and a back-off weight.
+#[derive(Clone, Copy, Debug, PartialEq, Eq)]
+pub struct Listed {
+    pub s: i32,
+    pub k: i32,
+}
+
+/// One D line.
+#[derive(Clone, Copy, Debug, PartialEq, Eq)]
+pub struct Pair {
+    pub w: u16,
+    pub y: u16,
+    pub listed: Listed,
+}
+
+/// One U line.
+#[derive(Clone, Copy, Debug, PartialEq, Eq)]
+pub struct Word {
+    pub y: u16,
+    pub listed: Listed,
+}
+
 /// A checked book.
-#[derive(Clone, Debug)]
+#[derive(Clone, Debug, Default)]
 pub struct Book {
     pub d: i32,
     pub eta: i32,
@@ -61,16 +107,35 @@ pub struct Book {
     /// Entry k is at k - 1.
     pub phrases: Vec<Phrase>,
     pub triples: Vec<Triple>,
-    /// The same triples by their words, for the search.
-    scores: HashMap<(u16, u16, u16), i32>,
+    pub pairs: Vec<Pair>,
+    pub words: Vec<Word>,
+    /// The same triples, pairs and words by their words, for the search.
+    triple_scores: HashMap<(u16, u16, u16), i32>,
+    listed_pairs: HashMap<(u16, u16), Listed>,
+    listed_words: HashMap<u16, Listed>,
 }
 
 impl Book {
     fn triple_score(&self, v: u16, w: u16, y: u16) -> i64 {
-        match self.scores.get(&(v, w, y)) {
+        match self.triple_scores.get(&(v, w, y)) {
             Some(&s) => s as i64,
-            None => self.u as i64,
+            None if self.pairs.is_empty() && self.words.is_empty() => self.u as i64,
+            None => self.backed_off(v, w, y),
         }
+    }
+
+    /// "A triple v, w, y without a T line scores the weight of pair v, w (0 if unlisted) plus the
+    /// score of pair w, y; an unlisted pair scores the weight of w (0 if unlisted) plus the score of
+    /// word y, or u if unlisted."
+    /// Not inlined: that keeps the search short.
+    #[inline(never)]
+    fn backed_off(&self, v: u16, w: u16, y: u16) -> i64 {
+        let weight = self.listed_pairs.get(&(v, w)).map_or(0, |d| d.k as i64);
+        if let Some(pair) = self.listed_pairs.get(&(w, y)) {
+            return weight + pair.s as i64;
+        }
+        let weight = weight + self.listed_words.get(&w).map_or(0, |word| word.k as i64);
+        weight + self.listed_words.get(&y).map_or(self.u, |word| word.s) as i64
     }
 }
 
@@ -114,52 +179,29 @@ fn number(field: &[u8]) -> Option<i32> {
     Some(if minus { -value } else { value })
 }
 
-/// Questions 1 to 7 of a book's text; the numbers loaded.
+/// Questions 1 to 6, 20 and 7 of a book's text; the numbers loaded.
 pub fn read_book(text: &[u8], places: usize) -> Result<Vec<i32>, u8> {
     // 1, of the whole text.
     let Some((&b'\n', body)) = text.split_last() else {
         return Err(1);
     };
-    let mut lines: Vec<(u8, Vec<i32>)> = Vec::new();
+    let mut lines: Vec<Vec<i32>> = Vec::new();
     for line in body.split(|&c| c == b'\n') {
-        let [letter @ (b'B' | b'P' | b'T'), b',', fields @ ..] = line else {
+        let [letter, b',', fields @ ..] = line else {
             return Err(1);
         };
-        let mut numbers = Vec::new();
+        let mut numbers = vec![kind(*letter).ok_or(1)?];
         for field in fields.split(|&c| c == b',') {
             numbers.push(number(field).ok_or(1)?);
         }
-        lines.push((*letter, numbers));
+        lines.push(numbers);
     }
     // 2, of every line.
-    for (letter, numbers) in &lines {
-        let fields = match letter {
-            b'B' => 3,
-            b'T' => 4,
-            _ => {
-                if numbers.len() < 2
-                    || !(1..=8).contains(&numbers[0])
-                    || !(1..=8).contains(&numbers[1])
-                {
-                    return Err(2);
-                }
-                numbers[0] as usize + numbers[1] as usize + 3
-            }
-        };
-        if numbers.len() != fields {
-            return Err(2);
-        }
+    if !lines.iter().all(|line| size(line) == Some(line.len())) {
+        return Err(2);
     }
-    let mut loaded = Vec::new();
-    for (letter, numbers) in &lines {
-        loaded.push(match letter {
-            b'B' => 1,
-            b'P' => 2,
-            _ => 3,
-        });
-        loaded.extend_from_slice(numbers);
-    }
-    // 3 to 6 (2 holds by now).
+    // 3 to 6 and 20 (2 holds by now).
+    let loaded = lines.concat();
     check_book(&loaded)?;
     if loaded.len() > places {
         return Err(7);
@@ -167,122 +209,130 @@ pub fn read_book(text: &[u8], places: usize) -> Result<Vec<i32>, u8> {
     Ok(loaded)
 }
 
-/// Questions 2 to 6 of a loaded list.
-pub fn check_book(book: &[i32]) -> Result<Book, u8> {
-    // 2.
-    let mut lines: Vec<&[i32]> = Vec::new();
-    let mut rest = book;
-    while let Some(&kind) = rest.first() {
-        let size = match kind {
-            1 => 4,
-            2 => {
-                if rest.len() < 3 || !(1..=8).contains(&rest[1]) || !(1..=8).contains(&rest[2]) {
-                    return Err(2);
-                }
-                rest[1] as usize + rest[2] as usize + 4
-            }
-            3 => 5,
-            _ => return Err(2),
-        };
-        if rest.len() < size {
-            return Err(2);
-        }
-        let (line, after) = rest.split_at(size);
-        lines.push(line);
-        rest = after;
+/// The kind that a letter stands for in a loaded book.
+fn kind(letter: u8) -> Option<i32> {
+    match letter {
+        b'B' => Some(1),
+        b'P' => Some(2),
+        b'T' => Some(3),
+        b'U' => Some(4),
+        b'D' => Some(5),
+        _ => None,
     }
+}
+
+/// How many numbers the line that stands first in the list takes, its kind included; None for a
+/// kind that is unknown, and where a or b is missing or out of range.
+fn size(list: &[i32]) -> Option<usize> {
+    match *list {
+        [1 | 4, ..] => Some(4),
+        [3 | 5, ..] => Some(5),
+        [2, a @ 1..=8, b @ 1..=8, ..] => Some((a + b + 4) as usize),
+        _ => None,
+    }
+}
+
+/// Question 2 of a loaded list: its lines.
+fn loaded_lines(mut list: &[i32]) -> Option<Vec<&[i32]>> {
+    let mut lines = Vec::new();
+    while !list.is_empty() {
+        let size = size(list).filter(|&size| size <= list.len())?;
+        let (line, after) = list.split_at(size);
+        lines.push(line);
+        list = after;
+    }
+    Some(lines)
+}
+
+/// Question 4 of a line.
+fn in_range(line: &[i32]) -> bool {
+    let score = |x: &i32| (-1_000_000..=1_000_000).contains(x);
+    let word = |x: &i32| (1..=65_535).contains(x);
+    let word_or_start = |x: &i32| (0..=65_535).contains(x);
+    match line {
+        [1, d, eta, u] => (0..=32).contains(d) && (-10_000..=10_000).contains(eta) && score(u),
+        [2, _, _, words @ .., g] => words.iter().all(word) && score(g),
+        [3, v, w, y, s] => word_or_start(v) && word_or_start(w) && word(y) && score(s),
+        [4, y, s, k] => word_or_start(y) && score(s) && score(k),
+        [5, w, y, s, k] => word_or_start(w) && word(y) && score(s) && score(k),
+        _ => false,
+    }
+}
+
+/// Questions 2 to 6, and 20, of a loaded list.
+pub fn check_book(book: &[i32]) -> Result<Book, u8> {
+    let lines = loaded_lines(book).ok_or(2)?;
     // 3.
     if lines.is_empty() || lines[0][0] != 1 || lines[1..].iter().any(|line| line[0] == 1) {
         return Err(3);
     }
     // 4.
-    let score = -1_000_000..=1_000_000;
-    let word = 1..=65_535;
-    let word_or_start = 0..=65_535;
-    for line in &lines {
-        let good = match line[0] {
-            1 => {
-                (0..=32).contains(&line[1])
-                    && (-10_000..=10_000).contains(&line[2])
-                    && score.contains(&line[3])
-            }
-            2 => {
-                let g = line.len() - 1;
-                line[3..g].iter().all(|x| word.contains(x)) && score.contains(&line[g])
-            }
-            _ => {
-                word_or_start.contains(&line[1])
-                    && word_or_start.contains(&line[2])
-                    && word.contains(&line[3])
-                    && score.contains(&line[4])
-            }
-        };
-        if !good {
-            return Err(4);
-        }
+    if !lines.iter().all(|line| in_range(line)) {
+        return Err(4);
     }
     // 5.
-    let phrase_count = lines.iter().filter(|line| line[0] == 2).count();
-    let triple_count = lines.iter().filter(|line| line[0] == 3).count();
-    if phrase_count > MAX_PHRASES || triple_count > MAX_TRIPLES {
+    let mut counts = [0; 6];
+    for line in &lines {
+        counts[line[0] as usize] += 1;
+    }
+    if counts[2] > MAX_PHRASES || counts[3..].iter().any(|&count| count > MAX_SCORES) {
         return Err(5);
     }
-    // 6, while the records are made.
-    let mut phrases = Vec::with_capacity(phrase_count);
-    let mut triples = Vec::with_capacity(triple_count);
-    let mut scores = HashMap::with_capacity(triple_count);
+    let made = records(&lines, counts);
+    // 6: of two lines with the same words one is not in the map.
+    if made.triple_scores.len() < made.triples.len() {
+        return Err(6);
+    }
+    // 20, after 6 was asked of the whole book.
+    if made.listed_pairs.len() < made.pairs.len() || made.listed_words.len() < made.words.len() {
+        return Err(20);
+    }
+    Ok(made)
+}
+
+/// The records of lines of which 2 to 5 say yes; there are so many of each kind.
+fn records(lines: &[&[i32]], [_, _, phrases, triples, words, pairs]: [usize; 6]) -> Book {
+    let mut made = Book {
+        phrases: Vec::with_capacity(phrases),
+        triples: Vec::with_capacity(triples),
+        pairs: Vec::with_capacity(pairs),
+        words: Vec::with_capacity(words),
+        triple_scores: HashMap::with_capacity(triples),
+        listed_pairs: HashMap::with_capacity(pairs),
+        listed_words: HashMap::with_capacity(words),
+        ..Book::default()
+    };
     let mut at = 0;
-    for line in &lines {
-        match line[0] {
-            2 => {
-                let (a, b) = (line[1] as usize, line[2] as usize);
-                let mut phrase = Phrase {
-                    source: [0; 8],
-                    source_len: a as u8,
-                    target: [0; 8],
-                    target_len: b as u8,
-                    g: line[3 + a + b],
-                    target_at: at + 3 + a,
-                };
-                for (to, &from) in phrase.source.iter_mut().zip(&line[3..3 + a]) {
-                    *to = from as u16;
-                }
-                for (to, &from) in phrase.target.iter_mut().zip(&line[3 + a..3 + a + b]) {
-                    *to = from as u16;
-                }
-                phrases.push(phrase);
-            }
-            3 => {
-                let triple = Triple {
-                    v: line[1] as u16,
-                    w: line[2] as u16,
-                    y: line[3] as u16,
-                    s: line[4],
-                };
-                if scores
-                    .insert((triple.v, triple.w, triple.y), triple.s)
-                    .is_some()
-                {
-                    return Err(6);
-                }
-                triples.push(triple);
-            }
-            _ => {}
+    for line in lines {
+        match **line {
+            [1, d, eta, u] => (made.d, made.eta, made.u) = (d, eta, u),
+            [3, v, w, y, s] => made.add_triple(v as u16, w as u16, y as u16, s),
+            [4, y, s, k] => made.add_word(y as u16, Listed { s, k }),
+            [5, w, y, s, k] => made.add_pair(w as u16, y as u16, Listed { s, k }),
+            _ => made.phrases.push(Phrase::of(line, at)),
         }
         at += line.len();
     }
-    Ok(Book {
-        d: book[1],
-        eta: book[2],
-        u: book[3],
-        phrases,
-        triples,
-        scores,
-    })
+    made
+}
+
+impl Book {
+    fn add_triple(&mut self, v: u16, w: u16, y: u16, s: i32) {
+        self.triples.push(Triple { v, w, y, s });
+        self.triple_scores.insert((v, w, y), s);
+    }
+    fn add_word(&mut self, y: u16, listed: Listed) {
+        self.words.push(Word { y, listed });
+        self.listed_words.insert(y, listed);
+    }
+    fn add_pair(&mut self, w: u16, y: u16, listed: Listed) {
+        self.pairs.push(Pair { w, y, listed });
+        self.listed_pairs.insert((w, y), listed);
+    }
 }
 
 /// Start (from 0) and size of an entry's target words in the loaded list; the empty part at the
-/// list's end for a number that is no entry, or a list that 2 to 6 refuse.
+/// list's end for a number that is no entry, or a list that 2 to 6 or 20 refuse.
 pub fn target_part(book: &[i32], entry: usize) -> (usize, usize) {
     if let Ok(checked) = check_book(book) {
         if let Some(phrase) = entry.checked_sub(1).and_then(|k| checked.phrases.get(k)) {
@@ -328,7 +378,7 @@ pub fn check_direction(direction: &[u16]) -> Result<(), u8> {
 // Scoring a proposed list
 // ---------------------------------------------------------------------------------------------
 
-/// Questions 2 to 6, 9, 10, then 16 to 19; the score of the proposed steps.
+/// Questions 2 to 6, 20, 9, 10, then 16 to 19; the score of the proposed steps.
 pub fn score(book: &[i32], direction: &[u16], steps: &[Step]) -> Result<i64, u8> {
     let book = check_book(book)?;
     check_direction(direction)?;
@@ -443,7 +493,7 @@ fn comes_first<'a>(sets: &'a [Set], mut a: &'a Way, mut b: &'a Way) -> bool {
     a.step < b.step
 }
 
-/// Questions 2 to 6, 9 to 15. The lists are lent by their lengths alone: places for steps, places
+/// Questions 2 to 6, 20, 9 to 15. The lists are lent by their lengths alone: places for steps, places
 /// for words, and 64-bit numbers in the store.
 pub fn decode(
     book: &[i32],
@@ -493,7 +543,7 @@ pub fn search(book: &Book, direction: &[u16], width: i64, room: usize) -> Result
         let states = &done[i].states;
         let best = states.iter().map(|q| q.score).max().unwrap_or(0);
         for (from_at, q) in states.iter().enumerate() {
-            // Scores differ by no more than 596,480,000, so this side cannot overflow.
+            // Scores differ by no more than 1,620,480,000, so this side cannot overflow.
             if width >= 0 && best - q.score > width {
                 continue;
             }

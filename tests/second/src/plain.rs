@@ -1,17 +1,42 @@
 //! The same matters as plainly as the papers put them, for checking: nothing here is shared with
 //! the search by sets but the record types of the book and of the answer.
 
-use crate::{check_book, check_direction, Answer, Book, Step};
+use crate::{check_book, check_direction, Answer, Book, Listed, Step};
 use std::collections::{BTreeSet, VecDeque};
 
-/// Score of a triple, by looking through the T lines.
+/// The D line of a pair, by looking through them.
+pub fn pair_line(book: &Book, w: u16, y: u16) -> Option<Listed> {
+    let mut lines = book.pairs.iter();
+    lines.find(|d| d.w == w && d.y == y).map(|d| d.listed)
+}
+
+/// The U line of a word, by looking through them.
+pub fn word_line(book: &Book, y: u16) -> Option<Listed> {
+    let mut lines = book.words.iter();
+    lines.find(|word| word.y == y).map(|word| word.listed)
+}
+
+/// Score of a triple, by looking through the T lines, then the D lines, then the U lines.
 pub fn triple(book: &Book, v: u16, w: u16, y: u16) -> i64 {
     for t in &book.triples {
         if t.v == v && t.w == w && t.y == y {
             return t.s as i64;
         }
     }
-    book.u as i64
+    let mut total = 0;
+    if let Some(before) = pair_line(book, v, w) {
+        total += before.k as i64;
+    }
+    if let Some(pair) = pair_line(book, w, y) {
+        return total + pair.s as i64;
+    }
+    if let Some(before) = word_line(book, w) {
+        total += before.k as i64;
+    }
+    match word_line(book, y) {
+        Some(word) => total + word.s as i64,
+        None => total + book.u as i64,
+    }
 }
 
 /// Does the step fit?
@@ -323,11 +348,11 @@ fn lines_of_text(text: &[u8], with_letters: bool) -> Option<Vec<PlainLine>> {
     for &byte in text {
         // A direction's line has no letter: it starts with a number.
         if let (At::LineStart, false) = (at, with_letters) {
-            lines.push((b'D', Vec::new()));
+            lines.push((b'-', Vec::new()));
             at = At::NumberStart;
         }
         at = match (at, byte) {
-            (At::LineStart, b'B' | b'P' | b'T') => {
+            (At::LineStart, b'B' | b'P' | b'T' | b'U' | b'D') => {
                 lines.push((byte, Vec::new()));
                 At::Comma
             }
@@ -370,8 +395,8 @@ fn lines_of_text(text: &[u8], with_letters: bool) -> Option<Vec<PlainLine>> {
 fn good_fields(line: &PlainLine) -> bool {
     let size = line.1.len() as i64;
     match line.0 {
-        b'B' => size == 3,
-        b'T' => size == 4,
+        b'B' | b'U' => size == 3,
+        b'T' | b'D' => size == 4,
         _ => {
             size >= 2
                 && line.1[0] >= 1
@@ -383,46 +408,56 @@ fn good_fields(line: &PlainLine) -> bool {
     }
 }
 
-/// Questions 3 to 6 of lines whose fields are right; 0 when all say yes.
+/// Is number k (from 0) of a line in its range? `left` are those that follow it.
+fn good_number(kind: u8, k: usize, left: usize, x: i64) -> bool {
+    let (low, high) = match (kind, k, left) {
+        (b'B', 0, _) => (0, 32),
+        (b'B', 1, _) => (-10_000, 10_000),
+        (b'P', 0 | 1, _) => (1, 8),
+        (_, _, 0) => (-1_000_000, 1_000_000),
+        (b'U' | b'D', _, 1) => (-1_000_000, 1_000_000),
+        (b'T', 0 | 1, _) => (0, 65_535),
+        (b'U' | b'D', 0, _) => (0, 65_535),
+        _ => (1, 65_535),
+    };
+    low <= x && x <= high
+}
+
+/// The first numbers of the lines of a kind, so many of each; are two of these rows the same?
+fn two_share(lines: &[PlainLine], kind: u8, numbers: usize) -> bool {
+    let of_kind = lines.iter().filter(|line| line.0 == kind);
+    let mut rows: Vec<&[i64]> = of_kind.map(|line| &line.1[..numbers]).collect();
+    rows.sort();
+    rows.windows(2).any(|two| two[0] == two[1])
+}
+
+/// Questions 3 to 6 and 20 of lines whose fields are right; 0 when all say yes.
 fn later_verdict(lines: &[PlainLine]) -> u8 {
     let kinds: Vec<u8> = lines.iter().map(|line| line.0).collect();
-    if kinds.first() != Some(&b'B') || kinds.iter().filter(|&&k| k == b'B').count() != 1 {
+    let many = |kind: u8| kinds.iter().filter(|&&k| k == kind).count();
+    if kinds.first() != Some(&b'B') || many(b'B') != 1 {
         return 3;
     }
     for (kind, numbers) in lines {
         for (k, &x) in numbers.iter().enumerate() {
-            let last = k + 1 == numbers.len();
-            let (low, high) = match (kind, k, last) {
-                (b'B', 0, _) => (0, 32),
-                (b'B', 1, _) => (-10_000, 10_000),
-                (b'P', 0 | 1, _) => (1, 8),
-                (_, _, true) => (-1_000_000, 1_000_000),
-                (b'T', 0 | 1, _) => (0, 65_535),
-                _ => (1, 65_535),
-            };
-            if x < low || x > high {
+            if !good_number(*kind, k, numbers.len() - k - 1, x) {
                 return 4;
             }
         }
     }
-    if kinds.iter().filter(|&&k| k == b'P').count() > 4096
-        || kinds.iter().filter(|&&k| k == b'T').count() > 8192
-    {
+    if many(b'P') > 4096 || many(b'T') > 8192 || many(b'U') > 8192 || many(b'D') > 8192 {
         return 5;
     }
-    let mut triples: Vec<&[i64]> = lines
-        .iter()
-        .filter(|line| line.0 == b'T')
-        .map(|line| &line.1[..3])
-        .collect();
-    triples.sort();
-    if triples.windows(2).any(|pair| pair[0] == pair[1]) {
+    if two_share(lines, b'T', 3) {
         return 6;
+    }
+    if two_share(lines, b'D', 2) || two_share(lines, b'U', 1) {
+        return 20;
     }
     0
 }
 
-/// What 1 to 7 say of a book's text: the number, or 0; and how many numbers are loaded.
+/// What 1 to 6, 20 and 7 say of a book's text: the number, or 0; and how many numbers are loaded.
 pub fn book_text_verdict(text: &[u8], places: usize) -> (u8, usize) {
     let Some(lines) = lines_of_text(text, true) else {
         return (1, 0);
@@ -438,7 +473,7 @@ pub fn book_text_verdict(text: &[u8], places: usize) -> (u8, usize) {
     }
 }
 
-/// What 2 to 6 say of a loaded list.
+/// What 2 to 6, and 20, say of a loaded list.
 pub fn loaded_verdict(list: &[i32]) -> u8 {
     let mut lines: Vec<PlainLine> = Vec::new();
     let mut at = 0;
@@ -447,6 +482,8 @@ pub fn loaded_verdict(list: &[i32]) -> u8 {
         let (letter, size) = match list[at] {
             1 => (b'B', 3),
             3 => (b'T', 4),
+            4 => (b'U', 3),
+            5 => (b'D', 4),
             2 => match (get(1), get(2)) {
                 (Some(a @ 1..=8), Some(b @ 1..=8)) => (b'P', (a + b + 3) as usize),
                 _ => return 2,

@@ -3,6 +3,7 @@
 use crate::cases::{self, BOOK, DIRECTION, LINE, READ, RENDERED, STEPS, STORE, TEXT, WORDS};
 use crate::gen::{self, DecodeCase, Rng, Shape};
 use crate::rounds::{self, Calls, Tally};
+use crate::ways::{self, Ways};
 use crate::Step;
 use std::fmt::Display;
 
@@ -102,7 +103,7 @@ fn other_calls(rng: &mut Rng, shape: &Shape, lines: &mut Lines) {
     for code in [0, 9, 10] {
         lines.check_direction(&gen::direction_saying(rng, shape, code));
     }
-    let (book, direction) = (rng.pick(&[0, 0, 0, 0, 1, 3]), rng.pick(&[0, 0, 0, 8]));
+    let (book, direction) = (rng.pick(&[0, 0, 0, 0, 1, 3, 20]), rng.pick(&[0, 0, 0, 8]));
     let book = gen::text_saying(rng, shape, book);
     let direction = gen::direction_text_saying(rng, shape, direction);
     lines.render(rng, &book, &direction);
@@ -131,7 +132,7 @@ pub fn made(seed: u64, inputs: usize) -> Lines {
             for small in [Shape::small(&mut rng), Shape::small_ties(&mut rng)] {
                 other_calls(&mut rng, &small, &mut lines);
             }
-            let code = rng.pick(&[2, 3, 4, 6]);
+            let code = rng.pick(&[2, 3, 4, 6, 20]);
             refused_books(&mut rng, &shape, code, &mut lines);
         }
         if k % 64 == 1 {
@@ -144,14 +145,37 @@ pub fn made(seed: u64, inputs: usize) -> Lines {
 
 /// The answers that random inputs reach in the two calls with step records; 0 stands for a result.
 const REACHED: [(&str, &[u8]); 2] = [
-    ("score", &[0, 2, 3, 4, 5, 6, 9, 10, 16, 17, 18, 19]),
-    ("decode", &[0, 2, 3, 4, 5, 6, 9, 10, 11, 12, 13, 14, 15]),
+    ("score", &[0, 2, 3, 4, 5, 6, 9, 10, 16, 17, 18, 19, 20]),
+    ("decode", &[0, 2, 3, 4, 5, 6, 9, 10, 11, 12, 13, 14, 15, 20]),
 ];
 
+/// What was met too seldom, in a sentence: an answer of the calls with step records, fewer than `least` times, or a way in which a triple
+/// is scored.
+fn seldom(tally: &Tally, ways: &Ways, least: u64) -> Result<(), String> {
+    for (call, codes) in REACHED {
+        for &code in codes {
+            let times = tally.times(call, code);
+            if times < least {
+                return Err(format!(
+                    "{call} gave {code} {times} times, fewer than {least}"
+                ));
+            }
+        }
+    }
+    match &ways.rare()[..] {
+        rare @ [_, ..] if least > 0 => Err(format!(
+            "met fewer than {} times: {}",
+            ways::LEAST,
+            rare.join(", ")
+        )),
+        _ => Ok(()),
+    }
+}
+
 /// Holds each line that was printed to its case, and prints how often each call gave each answer. What is wrong, in a sentence: a line
-/// that differs, or an answer of the calls with step records that was met fewer than `least` times.
+/// that differs, or something that was met too seldom.
 pub fn hold(lines: &str, printed: &str, least: u64) -> Result<(), String> {
-    let (mut tally, mut shared) = (Tally::default(), 0);
+    let (mut tally, mut shared, mut ways) = (Tally::default(), 0, Ways::default());
     let (asked, given) = (lines.lines().count(), printed.lines().count());
     if asked != given {
         return Err(format!("{asked} cases, but {given} lines printed"));
@@ -166,19 +190,12 @@ pub fn hold(lines: &str, printed: &str, least: u64) -> Result<(), String> {
         }
         tally.count(said.call, said.code);
         shared += said.shared as u64;
+        ways.add(said.ways);
     }
     tally.print();
     println!("decodes where several derivations have the top score: {shared} or more");
-    for (call, codes) in REACHED {
-        for &code in codes {
-            let times = tally.times(call, code);
-            if times < least {
-                return Err(format!(
-                    "{call} gave {code} {times} times, fewer than {least}"
-                ));
-            }
-        }
-    }
+    ways.print();
+    seldom(&tally, &ways, least)?;
     println!("{asked} cases, every line the second decoder's");
     Ok(())
 }

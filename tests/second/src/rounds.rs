@@ -67,13 +67,16 @@ pub fn round(rng: &mut Rng, k: usize, calls: &mut dyn Calls) {
     if k % 4 == 0 {
         reading_round(rng, &shape, k % 120 == 0, calls);
     }
+    if k % 120 == 0 {
+        full_book(rng, &shape, calls);
+    }
     scoring_round(rng, &shape, calls);
     decoding_round(rng, &shape, calls);
 }
 
 /// Texts of books and directions, and loaded lists: of each kind of damage one, and one damaged anyhow.
 pub fn reading_round(rng: &mut Rng, shape: &Shape, large: bool, calls: &mut dyn Calls) {
-    for code in 0..=6 {
+    for code in [0, 1, 2, 3, 4, 5, 6, 20] {
         if code == 5 && !large {
             continue;
         }
@@ -106,6 +109,17 @@ pub fn reading_round(rng: &mut Rng, shape: &Shape, large: bool, calls: &mut dyn 
     }
 }
 
+/// As many lines of each kind as are allowed.
+fn full_book(rng: &mut Rng, shape: &Shape, calls: &mut dyn Calls) {
+    let lines = gen::lines_of(rng, shape, [4_096, 8_192, 8_192, 8_192]);
+    let (list, text) = (gen::loaded(&lines), gen::text(&lines));
+    for short in [false, true] {
+        let places = gen::places(rng, list.len(), short);
+        calls.read_book(rng, &text, places);
+    }
+    calls.check_book(rng, &list);
+}
+
 /// Proposed lists: of each refusal one, any at all, and a book or a direction that is broken.
 pub fn scoring_round(rng: &mut Rng, shape: &Shape, calls: &mut dyn Calls) {
     let list = gen::book_saying(rng, shape, 0);
@@ -118,7 +132,7 @@ pub fn scoring_round(rng: &mut Rng, shape: &Shape, calls: &mut dyn Calls) {
     }
     let steps = gen::any_proposal(rng, &book, &direction);
     calls.score(rng, &list, &direction, &steps);
-    let code = rng.pick(&[2, 3, 4, 6]);
+    let code = rng.pick(&[2, 3, 4, 6, 20]);
     let broken = gen::book_saying(rng, shape, code);
     calls.score(rng, &broken, &direction, &steps);
     let code = rng.pick(&[9, 10]);

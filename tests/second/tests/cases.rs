@@ -1,5 +1,6 @@
 //! Cases as data: how a line is read, and how a printed line is held to the second decoder.
-use second::cases::line_said;
+use second::campaign::check_plainly;
+use second::cases::{decode_of, line_said};
 use second::random_cases::hold;
 
 /// Entries 1 and 2 are equal, entry 3 scores less, and entry 4 does not fit.
@@ -72,4 +73,21 @@ fn a_group_ends_with_its_list() {
 #[should_panic(expected = "a number too many")]
 fn a_line_ends_with_its_numbers() {
     line_said("list|7 1 9 9");
+}
+
+/// The stored cases' decodes, from question 13 on, are answered by the plain sets in the same way; so are their scorings, in `line_said`.
+#[test]
+fn the_stored_cases_plainly() {
+    let path = concat!(env!("CARGO_MANIFEST_DIR"), "/../../crates/try_cases/stdin");
+    let lines = std::fs::read_to_string(path).expect("the cases");
+    let mut searched = 0;
+    for case in lines.lines().filter_map(decode_of) {
+        let result = case.answer();
+        if matches!(result, Ok(_) | Err(13..=15)) {
+            let (width, store) = (case.width, case.store_len);
+            check_plainly(&case.book, &case.direction, width, store, &result);
+            searched += 1;
+        }
+    }
+    assert!(searched > 100, "{searched}");
 }

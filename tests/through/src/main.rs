@@ -1,12 +1,14 @@
 //! Random inputs, good and broken, to every call of the library, each answer held to the second decoder's. Every lent list is
 //! full of garbage before a call and is compared whole afterwards. `through SEED INPUTS [LEAST]`: LEAST is how often each
-//! refusal must have been met at the end. It stops at the first difference.
+//! refusal must have been met at the end; where it is not 0, each way in which a triple is scored must have been met too
+//! (`second::ways`). It stops at the first difference.
 
 #[path = "../../../include/phrase.rs"]
 mod library;
 
 use second::gen::{self, Rng};
 use second::rounds::{self, Calls, Tally};
+use second::ways::{self, Ways};
 use second::Step;
 
 /// The lists that a decode is lent to write to.
@@ -72,9 +74,9 @@ fn check_answer(case: &gen::DecodeCase, answer: &second::Answer, before: &Lent, 
     assert_eq!(after.words, over(&answer.words, &before.words), "{case:?}");
 }
 
-/// The library, and how often each of its calls gave each answer.
+/// The library, how often each of its calls gave each answer, and how the target words of its successes were scored.
 #[derive(Default)]
-struct Library(Tally);
+struct Library(Tally, Ways);
 
 impl Calls for Library {
     fn read_book(&mut self, rng: &mut Rng, text: &[u8], places: usize) {
@@ -129,7 +131,10 @@ impl Calls for Library {
         let mut report = before.clone();
         let reply = library::score(book, direction, &numbers, &mut report);
         let (expected, after) = match second::score(book, direction, steps) {
-            Ok(score) => (0, over(&[score], &before)),
+            Ok(score) => {
+                self.1.add(Ways::of(book, steps));
+                (0, over(&[score], &before))
+            }
             Err(code) => (code, before),
         };
         assert_eq!(
@@ -160,7 +165,7 @@ impl Calls for Library {
         let expected = case.answer();
         let code = *expected.as_ref().err().unwrap_or(&0);
         assert_eq!(reply, code as i32, "decode {case:?}");
-        let searched = code == 0 || code >= 13;
+        let searched = matches!(code, 0 | 13..=15);
         let zero = vec![0; case.store_len];
         assert_eq!(
             after.store,
@@ -168,7 +173,10 @@ impl Calls for Library {
             "{case:?}"
         );
         match &expected {
-            Ok(answer) => check_answer(case, answer, &before, &after),
+            Ok(answer) => {
+                check_answer(case, answer, &before, &after);
+                self.1.add(Ways::of(&case.book, &answer.steps));
+            }
             Err(_) => {
                 assert_eq!(after.steps, before.steps, "{case:?}");
                 assert_eq!(after.words, before.words, "{case:?}");
@@ -192,15 +200,30 @@ fn main() {
         rounds::round(&mut rng, round, &mut library);
         round += 1;
     }
-    let tally = library.0;
+    let Library(tally, ways) = library;
     tally.print();
-    let rare: Vec<u8> = (1..=19).filter(|&k| tally.refusals(k) < least).collect();
-    if !rare.is_empty() {
-        println!("met fewer than {least} times: {rare:?}");
+    ways.print();
+    let seldom = seldom(&tally, &ways, least);
+    if !seldom.is_empty() {
+        println!("{seldom}");
         std::process::exit(1);
     }
     println!(
         "{} inputs, every answer the second decoder's",
         tally.inputs()
     );
+}
+
+/// What was met too seldom; nothing where all was met.
+fn seldom(tally: &Tally, ways: &Ways, least: u64) -> String {
+    let rare: Vec<u8> = (1..=20).filter(|&k| tally.refusals(k) < least).collect();
+    if !rare.is_empty() {
+        return format!("met fewer than {least} times: {rare:?}");
+    }
+    match &ways.rare()[..] {
+        rare @ [_, ..] if least > 0 => {
+            format!("met fewer than {} times: {}", ways::LEAST, rare.join(", "))
+        }
+        _ => String::new(),
+    }
 }

@@ -1,4 +1,4 @@
--- The three words are those of the definition.
+-- The words are those of the definition.
 use Rattle.ngrams.specs.Grams.{keyAt}
 use borrow.Author.Needs.{needs}
 use Rattle.ngrams.proofs.key_at.Statement.{statement}
@@ -25,6 +25,12 @@ add-number-at-2 c = search needs
 number-at-requires-3 : tie.Need-number-at-requires-3
 number-at-requires-3 c κs = search needs
 
+add-number-at-3 : tie.Need-add-number-at-3
+add-number-at-3 c = search needs
+
+number-at-requires-4 : tie.Need-number-at-requires-4
+number-at-requires-4 c κs = search needs
+
 returns : tie.Need-returns
 unfolding keyAt
 returns c = cc
@@ -40,4 +46,6 @@ key-at-spec =
     number-at-requires-2
     add-number-at-2
     number-at-requires-3
+    add-number-at-3
+    number-at-requires-4
     returns)

@@ -1,4 +1,4 @@
--- What 2 to 6 answer; where they pass, the places of the entries are put behind what loading left.
+-- What 2 to 6 and 20 answer; where they pass, the places of the entries are put behind what loading left.
 use native.Mathlib.Omega.{arith}
 use Rattle.opening.proofs.Starting.{opened}
 use borrow.Author.Needs.{needs}
@@ -8,11 +8,11 @@ use Rattle.opening.proofs.open_book.Tie as tie
 load-requires : tie.Need-load-requires
 load-requires c κs = search needs
 
-enum-known-triples : tie.Need-enum-known-triples
-enum-known-triples c = search needs
+enum-known-grams : tie.Need-enum-known-grams
+enum-known-grams c = search needs
 
 find-entries-requires : tie.Need-find-entries-requires
-find-entries-requires c κs = let r = rw (c .before .before .triples .given .1) at (c .before .before .before .before .before .before .load .ensures) in (r .passes, omega (arith, c .before .before .before .before .before .before .load .kept, c .before .before .before .before .before .before .before .before .before .pre))
+find-entries-requires c κs = let r = rw (c .before .before .grams .given .1) at (c .before .before .before .before .before .before .load .ensures) in (r .passes, omega (arith, c .before .before .before .before .before .before .load .kept, c .before .before .before .before .before .before .before .before .before .pre))
 
 enum-known-refusal : tie.Need-enum-known-refusal
 enum-known-refusal c = search needs
@@ -21,7 +21,7 @@ same-length : tie.Need-same-length
 same-length c = search needs
 
 returns : tie.Need-returns
-returns c = let r = rw (c .before .before .before .before .before .triples .given .1) at (c .before .before .before .before .before .before .before .before .before .load .ensures) in opened r (c .before .before .find-entries .ensures)
+returns c = let r = rw (c .before .before .before .before .before .grams .given .1) at (c .before .before .before .before .before .before .before .before .before .load .ensures) in opened r (c .before .before .find-entries .ensures)
 
 same-length-2 : tie.Need-same-length-2
 same-length-2 c = search needs
@@ -34,7 +34,7 @@ open-book-spec =
     tie.close
     (tie.spec
     load-requires
-    enum-known-triples
+    enum-known-grams
     find-entries-requires
     enum-known-refusal
     same-length

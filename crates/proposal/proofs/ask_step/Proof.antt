@@ -2,15 +2,18 @@
 use borrow.Author.Needs.{needs}
 use Prim.Native.Nat.{_≤_}
 use native.Mathlib.Omega.{arith}
-use mathlib.Core.Path.{_≡_, sym, _∙_}
+use mathlib.Core.Path.{_≡_, sym, _∙_, subst}
 use mathlib.Core.Bool.{true}
 use borrow.Author.Tests.{not-true, not-false, lt-leb}
+use Rattle.laws.specs.Integers.{Within}
+use Rattle.meaning.specs.Bounds.{scoreMost}
 use Rattle.meaning.specs.Book.{Book, bookOf}
 use Rattle.meaning.specs.Direction.{wordCount}
 use Rattle.meaning.specs.Derivation.{fits, jump, entryAt}
 use Rattle.meaning.specs.State.{Key, isFree, keyOf}
 use Rattle.meaning.specs.declared.Step.{Step}
 use Rattle.meaning.proofs.Steps.{fits-facts}
+use Rattle.derivation.proofs.Rows.{next-by}
 use Rattle.proposal.specs.Proposal.{stepOf}
 use Rattle.proposal.proofs.Asking.{asked-16, asked-17, asked-18, free-is, direction-few, last-inside, can-next, follows}
 use Rattle.proposal.proofs.ask_step.Statement.{statement}
@@ -107,25 +110,26 @@ phrase-at-requires c κs =
     let e = f .entry-to in
     (b .pre .0 .entries-at, (f .entry-from, omega arith))
 
--- src/proposal.rt:80:17
+row-of-requires : tie.Need-row-of-requires
+row-of-requires c κs =
+    let b = c .before .before .before .before .before .before .before .before .before .before .before .before in (b .pre .0 .model, record { entry = entryAt (theBook b) (b .args .entry); is = c .phrase-at .ensures })
+
 next-state-requires : tie.Need-next-state-requires
 next-state-requires c κs =
-    let b = c .before .before .before .before .before .before .before .before .before .before .before .before in (
-      b .pre .0 .model,
-      (
-        record { entry = entryAt (theBook b) (b .args .entry); is = c .phrase-at .ensures },
-        can-next (b .args .book .now) (b .args .direction .now) (b .args .index .now) (b .args .t) (b .pre .0) (b .args .s) (theStep b) (b .pre .1) (fitting (c .before .before .before .before .before .before .before .before))
-            (is-free-yes (c .before .before .before .before .before)) (near (c .before)),
-      ),
+    let b = c .before .before .before .before .before .before .before .before .before .before .before .before .before in
+    let p = c .before .phrase-at .ensures in (
+      (subst (Within scoreMost) (sym (p .g-is)) (p .g-within), c .row-of .ensures .1),
+      can-next (b .args .book .now) (b .args .direction .now) (b .args .index .now) (b .args .t) (b .pre .0) (b .args .s) (theStep b) (b .pre .1) (fitting (c .before .before .before .before .before .before .before .before .before))
+          (is-free-yes (c .before .before .before .before .before .before)) (near (c .before .before)),
     )
 
--- src/proposal.rt:47:1
 returns-4 : tie.Need-returns-4
 returns-4 c =
-    let b = c .before .before .before .before .before .before .before .before .before .before .before .before .before in
-    rw (c .next-state .ensures (entryAt (theBook b) (b .args .entry)) (c .before .phrase-at .ensures))
-    (follows (b .args .book .now) (b .args .direction .now) (b .args .index .now) (b .args .t) (b .pre .0) (b .args .s) (theStep b) (b .pre .1) (fitting (c .before .before .before .before .before .before .before .before .before))
-    (is-free-yes (c .before .before .before .before .before .before)) (near (c .before .before)) (c .before .phrase-at .result) (c .before .phrase-at .ensures))
+    let b = c .before .before .before .before .before .before .before .before .before .before .before .before .before .before in
+    let p = c .before .before .phrase-at in
+    rw (next-by (b .args .index .now) (b .args .t) (p .result) (entryAt (theBook b) (b .args .entry)) (b .args .first) (b .args .last) (b .args .s) (c .next-state .result) (c .before .row-of .result) (c .before .row-of .ensures .0 (entryAt (theBook b) (b .args .entry)) (p .ensures)) (c .next-state .ensures))
+    (follows (b .args .book .now) (b .args .direction .now) (b .args .index .now) (b .args .t) (b .pre .0) (b .args .s) (theStep b) (b .pre .1) (fitting (c .before .before .before .before .before .before .before .before .before .before))
+    (is-free-yes (c .before .before .before .before .before .before .before)) (near (c .before .before .before)) (p .result) (p .ensures))
 
 pub ask-step-spec : {M : Type 1} → statement M
 ask-step-spec =
@@ -140,5 +144,6 @@ ask-step-spec =
     jump-requires
     returns-3
     phrase-at-requires
+    row-of-requires
     next-state-requires
     returns-4)

@@ -1,10 +1,11 @@
 -- A survey that breaks off is refusal 1 or 2; of a whole one, what questions 3 to 6 answer is the text's answer.
-use mathlib.Core.Path.{ap, _∙_}
+use mathlib.Core.Path.{refl, ap, _∙_}
 use Rattle.meaning.specs.Book.{InText, textLines}
 use Rattle.meaning.specs.Reply.{readReply}
 use Rattle.reading.specs.Text.{textRefusal}
 use Rattle.meaning.proofs.Numbered.{refused-reply}
 use Rattle.reading.proofs.TextReplies.{answer-counted}
+use native.Mathlib.Omega.{arith}
 use borrow.Author.Needs.{needs}
 use Rattle.reading.proofs.check_text.Statement.{statement}
 use Rattle.reading.proofs.check_text.Tie as tie
@@ -16,7 +17,7 @@ slice-aggregate-survey-text-2 : tie.Need-slice-aggregate-survey-text-2
 slice-aggregate-survey-text-2 c = search needs
 
 survey-text-requires : tie.Need-survey-text-requires
-survey-text-requires c κs = search needs
+survey-text-requires c κs = (omega arith, refl)
 
 enum-known-surveyed : tie.Need-enum-known-surveyed
 enum-known-surveyed c = search needs

@@ -6,7 +6,7 @@ use native.Mathlib.Omega.{arith}
 use lib.ListN.{drop}
 use Rattle.laws.specs.Integers.{Within}
 use Rattle.laws.proofs.Bounds.{within-mono}
-use Rattle.meaning.specs.Bounds.{scoreMost}
+use Rattle.meaning.specs.Bounds.{tripleBound}
 use Rattle.meaning.specs.Book.{Entry}
 use Rattle.derivation.specs.Model.{emptyRow, withWords, PhraseOf}
 use Rattle.derivation.proofs.Rows.{word-is, row-next, row-end, row-within}
@@ -19,7 +19,7 @@ use Rattle.derivation.proofs.model.word_at.Reads as word-at-reads
 
 abbrev Inv-loop : tie.InvT-loop
 Inv-loop book index t p word1 word2 s₀ j₀ s j =
-    (j ≤ p .count) × (Within (j * scoreMost) (s .score)
+    (j ≤ p .count) × (Within (j * tripleBound) (s .score)
     × ((e : Entry) → PhraseOf book e p → withWords index t s (drop j (e .target)) ≡ withWords index t (emptyRow word1 word2) (e .target)))
 
 abbrev μ-loop : tie.MeasureT-loop
