@@ -93,7 +93,7 @@ fn decode(name: &str, book: &[i32], direction: &[u16], width: i64) {
     let states = answer.states;
     let places = states + states / 10 + 1;
     let mut lent = Lent::new(places);
-    let turns = (2_000_000 / states.max(1)).clamp(5, 200);
+    let turns = (8_000_000 / states.max(1)).clamp(6, 200);
     let (a, b) = side_by_side(
         turns,
         || assert_eq!(lent.decode(book, direction, width), 0),

@@ -2,16 +2,14 @@
 use Prim.Native.Nat.{ℕ, _+_}
 use mathlib.Core.Bool.{_&&_, cond}
 use mathlib.Core.List.{List, [], _∷_}
-use lib.Dec.{ltb}
 use lib.IntN.{ℤ}
 use Rattle.laws.specs.Bits.{one}
 use Rattle.meaning.specs.Book.{isGram}
-use Rattle.ngrams.specs.Parts.{recordsMost}
-use Rattle.ngrams.specs.Grams.{putRecord}
+use Rattle.ngrams.specs.Grams.{putRecord, hasPlace}
 
--- one line more, after n lines of n-grams: what passes the number that question 5 allows is not noted
+-- one line more, after n lines of n-grams: what passes the number that question 5 allows is not noted, nor what the list has no place for
 unfoldable pub withGram : List ℕ → ℕ → List ℤ → List ℕ
-withGram index n line = cond (isGram line && ltb n recordsMost) (putRecord index n line) index
+withGram index n line = cond (isGram line && hasPlace index n) (putRecord index n line) index
 
 -- the lines from the first on
 unfoldable pub gramsFrom : List ℕ → ℕ → List (List ℤ) → List ℕ

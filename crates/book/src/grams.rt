@@ -2,31 +2,25 @@
 use crate::survey;
 use crate::survey::Survey;
 ghost use mathlib.Core.Path.{_≡_};
-ghost use Prim.Native.Nat.{_≤_};
-ghost use lib.ListN.{length};
-ghost use Rattle.ngrams.specs.Parts.{recordsEnd};
 ghost use Rattle.book.specs.Survey.{withLine, withKind, gramCount, linesMost, Few};
 ghost use Rattle.book.specs.Grams.{withGram};
 
 // A line that lists an n-gram, put as the record behind those of the `n` such lines before it. A line of another kind, or one for which
-// the book's limits leave no place (question 5), changes nothing.
+// there is no place, changes nothing.
 fn put_gram(index: &mut [u16], n: usize, line: &[i32])
-    requires { ⌜ recordsEnd ≤ length (now index) ⌝ }
     ensures { λ _. ⌜ now (index .exit) ≡ withGram (now (index .entry)) n (now (line .entry)) ⌝ }
 {
     if lines::order_of(line) == 0 {
         return;
     }
-    if ngrams::RECORDS_MOST <= n {
-        return;
+    if ngrams::has_place(index, n) {
+        ngrams::put_record(index, n, line);
     }
-    ngrams::put_record(index, n, line);
 }
 
 // One line more, of a text or of a loaded list: what it adds to the survey and to the tally, and its record where it lists an n-gram.
 pub fn note_line(acc: Survey, index: &mut [u16], tally: &mut [usize], line: &[i32]) -> Survey
     requires { ⌜ Few acc (now tally) linesMost ⌝ }
-    requires { ⌜ recordsEnd ≤ length (now index) ⌝ }
     ensures { λ r. ⌜ r ≡ withLine acc (now (line .entry)) ⌝ }
     ensures { λ r. ⌜ now (tally .exit) ≡ withKind (now (tally .entry)) (now (line .entry)) ⌝ }
     ensures { λ r. ⌜ now (index .exit) ≡ withGram (now (index .entry)) (gramCount (now (tally .entry))) (now (line .entry)) ⌝ }

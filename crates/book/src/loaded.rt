@@ -6,7 +6,6 @@ ghost use mathlib.Core.Path.{_≡_};
 ghost use Prim.Native.Nat.{_≤_};
 ghost use lib.ListN.{length, drop};
 ghost use Rattle.meaning.specs.Book.{isP};
-ghost use Rattle.ngrams.specs.Parts.{recordsEnd};
 ghost use Rattle.book.specs.Survey.{noTally};
 ghost use Rattle.book.specs.Loaded.{sizeAt, SurveyOf};
 
@@ -39,7 +38,6 @@ pub fn is_entry_at(book: &[i32], at: usize) -> bool
 // What is known of all lines of a loaded list; `index` gets the records of its n-grams, and the tally, all zero before, how many
 // lines there are of each kind. Where a line is not whole, what the two hold afterwards is not said.
 pub fn survey_loaded(book: &[i32], index: &mut [u16], tally: &mut [usize]) -> Surveyed
-    requires { ⌜ recordsEnd ≤ length (now index) ⌝ }
     requires { ⌜ now tally ≡ noTally ⌝ }
     ensures { λ r. ⌜ SurveyOf (now (book .entry)) (now (index .entry)) (now (index .exit)) (now (tally .exit)) r ⌝ }
 {

@@ -17,20 +17,20 @@ pub fn clear(store: &mut [i64])
     }
 }
 
-// The place k is zero, but for its head, and so is the head h.
+// The place k is zero, and so is the head h.
 fn clear_place(store: &mut [i64], k: usize, h: usize)
     requires { ⌜ (8 * k + 8 ≤ length (now store)) × (8 * h + 8 ≤ length (now store)) ⌝ }
     ensures { λ _. ⌜ Zeroed (now (store .entry)) (now (store .exit)) k h ⌝ }
 {
-    let o = 8 * k;
+    let o = store.len() / 8 + 7 * k;
     store[o] = 0;
     store[o + 1] = 0;
     store[o + 2] = 0;
     store[o + 3] = 0;
     store[o + 4] = 0;
     store[o + 5] = 0;
-    store[o + 7] = 0;
-    store[8 * h + 6] = 0;
+    store[o + 6] = 0;
+    store[h] = 0;
 }
 
 // Every number of the store is zero, where it holds count states and nothing else: only what they used is written.

@@ -113,7 +113,7 @@ fn back_off(index: &[u16], m: LanguageModel, key: Key) -> i64
     weight + s
 }
 
-// The score of the triple v, w, y where it is not listed: u where only triples are. (What goes on is lent copies, so that a triple that is listed pays nothing for it.)
+// The score of the triple v, w, y where it is not listed: u where only triples are. (The model is copied here, for the call alone, so that a triple that is listed pays nothing for it.)
 fn unlisted(index: &[u16], m: LanguageModel, v: usize, w: usize, y: usize) -> i64
     requires { ⌜ IsModel (now index) m ⌝ }
     ensures { λ r. ⌜ r ≡ unlistedScore (m .unseen) (gramsIn (now (index .entry)) (m .count)) (v ∷ w ∷ y ∷ []) ⌝ }

@@ -15,7 +15,7 @@ use Rattle.meaning.specs.Questions.{_unless_, _orelse_, number}
 use Rattle.meaning.specs.Book.{Form, InList, kinds, isKind, isU, isD, isWhole, isOneBFirst, isInRange, isNoTripleTwice, isNoShorterTwice, linesRefusal, orderOf, isGram, bookOfLines, loadedLines}
 use Rattle.meaning.specs.declared.Refusal.{Refusal}
 use Rattle.meaning.proofs.Chains.{rest-passes, test-passes}
-use Rattle.ngrams.specs.Parts.{recordsMost, recordsFrom, recordsEnd, KeptFrom}
+use Rattle.ngrams.specs.Parts.{recordsMost, recordAt, KeptRecords}
 use Rattle.ngrams.specs.declared.Key.{Key}
 use Rattle.ngrams.specs.Grams.{keyAt, keysIn, gramsIn, sameKey, repeatRefusal, Indexed}
 use Rattle.ngrams.proofs.Differ.{kept-listing, kept-grams}
@@ -90,7 +90,7 @@ compared-none lines k e six twenty = by (isNoTripleTwice lines) (isNoShorterTwic
     by true false q = absurd (twenty q)
     by false b q = absurd (six q)
 
-module _ {form : Form} {lines : List (List ℤ)} {index₀ index tally : List ℕ} {s : Survey} (w : WholeAs form lines index₀ index tally s) (room : recordsEnd ≤ length index) (four : surveyRefusal s tally ≡ 0) where
+module _ {form : Form} {lines : List (List ℤ)} {index₀ index tally : List ℕ} {s : Survey} (w : WholeAs form lines index₀ index tally s) (room : recordAt (gramCount tally) ≤ length index) (four : surveyRefusal s tally ≡ 0) where
   last-refusal : linesRefusal form lines ≡ repeatsRefusal lines
   last-refusal = survey-refusal form lines (w .whole) ∙ ap (λ (k : ℕ). k orelse repeatsRefusal lines) (ap₂ surveyRefusal (sym (w .surveyed)) (sym (w .tallied)) ∙ four)
 
@@ -117,7 +117,7 @@ module _ {form : Form} {lines : List (List ℤ)} {index₀ index tally : List �
         let n : length (keep isGram lines) ≡ count isGram lines = keep-length isGram lines in
         let z = counted in
         let few = few-grams tally (judged-few s tally four) in
-        rw (w .gathered) (grams-hold index₀ lines (omega arith) (omega (arith, ap length (w .gathered), grams-long index₀ 0 lines)) k f (omega arith) l);
+        rw (w .gathered) (grams-hold index₀ lines (record { parts = omega (arith, ap length (w .gathered), grams-long index₀ 0 lines); few = omega arith }) k f (omega arith) l);
   }
 
   pub compared-so : repeatRefusal index (gramCount tally) ≡ linesRefusal form lines
@@ -135,7 +135,7 @@ module _ {form : Form} {lines : List (List ℤ)} {index₀ index tally : List �
       (none-of isD lines (omega (arith, z, counted-kind 5 (omega arith) (omega arith))) line (is .0))
 
   -- `index_all` left the records as they were
-  pub different-so : {after : List ℕ} → KeptFrom recordsFrom index after → (k : ℕ) → k ≡ repeatRefusal index (gramCount tally) → (k ≡ 6 → ⊥) → (k ≡ 20 → ⊥) → Indexed after (gramCount tally)
+  pub different-so : {after : List ℕ} → KeptRecords index after → (k : ℕ) → k ≡ repeatRefusal index (gramCount tally) → (k ≡ 6 → ⊥) → (k ≡ 20 → ⊥) → Indexed after (gramCount tally)
       → Known (linesRefusal form lines) (bookOfLines lines) after (record { count = gramCount tally; shorter = shorterCount tally })
   unfolding bookOfLines
   different-so {after} same k e six twenty x =

@@ -13,9 +13,9 @@ ghost use lib.IntN.{ℤ};
 ghost use lib.ListN.{length};
 ghost use Rattle.meaning.specs.Book.{Form, linesRefusal, bookOfLines, bookRefusal, bookOf};
 ghost use Prim.Native.Nat.{ℕ, _≤_};
-ghost use Rattle.ngrams.specs.Parts.{recordsEnd};
+ghost use Rattle.ngrams.specs.Parts.{recordsEnd, recordAt};
 ghost use Rattle.book.specs.declared.survey.Survey.{Survey};
-ghost use Rattle.book.specs.Survey.{tallySize, areAllFew, surveyRefusal};
+ghost use Rattle.book.specs.Survey.{tallySize, gramCount, areAllFew, surveyRefusal};
 ghost use Rattle.loading.specs.Loaded.{refusalOf, WholeAs, SurveyIs, Answered};
 
 // How many of a book's lines list an n-gram, and how many of those a pair or a word.
@@ -50,7 +50,7 @@ fn judge(s: Survey, tally: &[usize]) -> Checked
 
 // Questions 6 and 20, of lines that passed 2 to 5. Where they pass, the records are indexed.
 fn compare(index: &mut [u16], tally: &[usize]) -> Loaded
-    requires { ⌜ recordsEnd ≤ length (now index) ⌝ }
+    requires { ⌜ recordAt (gramCount (now tally)) ≤ length (now index) ⌝ }
     requires { ⌜ length (now tally) ≡ tallySize ⌝ }
     requires { ⌜ areAllFew (now tally) ≡ true ⌝ }
     ensures { λ r. ⌜ ((form : Form) (lines : List (List ℤ)) (index₀ : List ℕ) (s : Survey) → WholeAs form lines index₀ (now (index .entry)) (now (tally .entry)) s → surveyRefusal s (now (tally .entry)) ≡ 0 → Answered (linesRefusal form lines) (bookOfLines lines) (now (index .exit)) r) ⌝ }
@@ -67,9 +67,9 @@ fn compare(index: &mut [u16], tally: &[usize]) -> Loaded
     Loaded::Book(Grams { count, shorter })
 }
 
-// Questions 3 to 6 and 20, of lines that passed 2.
+// Questions 3 to 6 and 20, of lines that passed 2. Where question 5 passes, the list has room for the records of all their n-grams.
 pub fn settle_whole(s: Survey, index: &mut [u16], tally: &[usize]) -> Loaded
-    requires { ⌜ recordsEnd ≤ length (now index) ⌝ }
+    requires { ⌜ (areAllFew (now tally) ≡ true → recordAt (gramCount (now tally)) ≤ length (now index)) ⌝ }
     requires { ⌜ length (now tally) ≡ tallySize ⌝ }
     ensures { λ r. ⌜ ((form : Form) (lines : List (List ℤ)) (index₀ : List ℕ) → WholeAs form lines index₀ (now (index .entry)) (now (tally .entry)) s → Answered (linesRefusal form lines) (bookOfLines lines) (now (index .exit)) r) ⌝ }
 {
@@ -82,7 +82,7 @@ pub fn settle_whole(s: Survey, index: &mut [u16], tally: &[usize]) -> Loaded
 // Questions 2 to 6 and 20, of lines that were surveyed, their records in `index` and how many there are of each kind in the tally.
 // Where they pass, the records are indexed.
 pub fn settle(surveyed: Surveyed, index: &mut [u16], tally: &[usize]) -> Loaded
-    requires { ⌜ recordsEnd ≤ length (now index) ⌝ }
+    requires { ⌜ (areAllFew (now tally) ≡ true → recordAt (gramCount (now tally)) ≤ length (now index)) ⌝ }
     requires { ⌜ length (now tally) ≡ tallySize ⌝ }
     ensures { λ r. ⌜ ((form : Form) (lines : List (List ℤ)) (index₀ : List ℕ) → SurveyIs form lines index₀ (now (index .entry)) (now (tally .entry)) surveyed → Answered (linesRefusal form lines) (bookOfLines lines) (now (index .exit)) r) ⌝ }
 {

@@ -10,7 +10,6 @@ pub mod Order
 pub mod Steps
 pub mod Cover
 pub mod Ranges
-pub mod Base
 pub mod Table
 pub mod Sizes
 pub mod Loaded

@@ -7,7 +7,7 @@ use lib.Dec.{eqb}
 use lib.IntN.{ℤ, pos, negsuc}
 use lib.ListN.{replicate, take, length, set}
 use Rattle.laws.specs.Lists.{all}
-use Rattle.meaning.specs.Book.{InText, linesRefusal, bookRefusal, readRefusal, targetPart, partOf}
+use Rattle.meaning.specs.Book.{bookRefusal, readRefusal, targetPart, partOf}
 use Rattle.meaning.specs.Direction.{directionRefusal, readDirectionRefusal}
 use Rattle.meaning.specs.Reply.{proposalRefusal, beforeSearch}
 use Rattle.meaning.specs.declared.Step.{Step}
@@ -223,21 +223,6 @@ loaded =
 pub loaded-agree : all agrees loaded ≡ true
 unfolding computing loaded bytes bookText book
 loaded-agree = refl
-
--- 5: one line too many of any kind; equal lines are not asked about before
-unfoldable pub many : List Row
-many =
-    (linesRefusal InText (bLine ∷ replicate 4096 pLine), 0)
-    ∷ (linesRefusal InText (bLine ∷ replicate 4097 pLine), 5)
-    ∷ (linesRefusal InText (bLine ∷ replicate 8193 tLine), 5)
-    ∷ (linesRefusal InText (bLine ∷ replicate 8193 uLine), 5)
-    ∷ (linesRefusal InText (bLine ∷ replicate 8193 dLine), 5)
-    ∷ (linesRefusal InText (bLine ∷ replicate 8192 dLine), 20)
-    ∷ []
-
-pub many-agree : all agrees many ≡ true
-unfolding computing many
-many-agree = refl
 
 -- ════ directions, into 32 places
 

@@ -14,7 +14,7 @@ use Rattle.laws.proofs.Lists.{noneTwice-at}
 use Rattle.laws.proofs.Tests.{by-test}
 use Rattle.meaning.specs.Questions.{_unless_, _orelse_}
 use Rattle.ngrams.specs.declared.Key.{Key}
-use Rattle.ngrams.specs.Parts.{recordsMost, recordsFrom, recordsEnd, KeptFrom, KeptBelow}
+use Rattle.ngrams.specs.Parts.{recordsMost, recordsEnd, KeptRecords, KeptBelow}
 use Rattle.ngrams.specs.Grams.{keyAt, gramAt, holds, sameKey, firsts, keysIn, gramsIn, earlierAlike, sameTriple, repeatRefusal, withRepeat, wordsOf, keyOf, Indexed, Listing}
 use Rattle.ngrams.proofs.Keys.{same-is, same-sym}
 use Rattle.ngrams.proofs.Index.{kept-key, kept-gram, below-key, below-gram, below-indexed}
@@ -126,7 +126,7 @@ module _ (index : List ℕ) where
 
 -- ---- where the records are kept, so are their words and their n-grams
 
-module _ {old new : List ℕ} (same : KeptFrom recordsFrom old new) where
+module _ {old new : List ℕ} (same : KeptRecords old new) where
   kept-keys : (n : ℕ) → keysIn new n ≡ keysIn old n
   kept-keys n = firsts-same (keyAt old) (keyAt new) n (λ k l. kept-key same k)
 

@@ -10,7 +10,8 @@ use borrow.Author.Tests.{eqb-true, eq-eqb, ne-eqb}
 use Rattle.laws.specs.Lists.{eqList}
 use Rattle.laws.proofs.Tests.{both, both-of, same-test}
 use Rattle.ngrams.specs.declared.Key.{Key}
-use Rattle.ngrams.specs.Grams.{recordAt, keyAt, wordsOf, keyOf, sameKey, holds}
+use Rattle.ngrams.specs.Parts.{recordAt}
+use Rattle.ngrams.specs.Grams.{keyAt, wordsOf, keyOf, sameKey, holds}
 
 -- ---- the test of a record
 

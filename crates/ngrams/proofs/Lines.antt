@@ -20,8 +20,8 @@ use Rattle.meaning.proofs.Ranges.{GramLine, gram-line}
 use Rattle.halves.specs.Halves.{signShift}
 use Rattle.halves.proofs.Halves.{signed-is}
 use Rattle.ngrams.specs.declared.Key.{Key}
-use Rattle.ngrams.specs.Parts.{recordSize}
-use Rattle.ngrams.specs.Grams.{recordAt, recordOf, wordOr0, keyAt, scoreAt, weightAt, wordsOf, keyOf, gramAt, firsts, keysIn, gramsIn}
+use Rattle.ngrams.specs.Parts.{recordSize, recordAt}
+use Rattle.ngrams.specs.Grams.{recordOf, wordOr0, keyAt, scoreAt, weightAt, wordsOf, keyOf, gramAt, firsts, keysIn, gramsIn}
 use Rattle.ngrams.proofs.Differ.{firsts-length, firsts-at}
 
 -- ---- a line that is whole and in range

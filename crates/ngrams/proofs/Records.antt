@@ -9,8 +9,8 @@ use Rattle.laws.specs.Lists.{setFrom}
 use Rattle.laws.proofs.Fields.{from-long, from-far, from-first, from-near}
 use Rattle.meaning.specs.Book.{numberAt, orderOf}
 use Rattle.halves.specs.Halves.{halvesOf, shifted}
-use Rattle.ngrams.specs.Parts.{recordSize}
-use Rattle.ngrams.specs.Grams.{recordAt, wordOr0, recordOf, putRecord}
+use Rattle.ngrams.specs.Parts.{recordSize, recordAt}
+use Rattle.ngrams.specs.Grams.{wordOr0, recordOf, putRecord}
 
 module _ (index : List ℕ) (line : List ℤ) (k : ℕ) where
   -- the record's numbers but the first

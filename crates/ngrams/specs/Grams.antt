@@ -3,7 +3,7 @@ use Prim.Native.Nat.{ℕ, zero, suc, _+_, _*_, _/_, _%_, _≤_, _<_}
 use mathlib.Core.Path.{_≡_}
 use mathlib.Core.Bool.{Bool, true, _&&_, cond}
 use mathlib.Core.List.{List, [], _∷_, _++_}
-use lib.Dec.{eqb, leb}
+use lib.Dec.{eqb, leb, ltb}
 use lib.IntN.{ℤ}
 use lib.ListN.{length, getD, take}
 use Rattle.laws.specs.Index.{latest, Chained}
@@ -13,13 +13,9 @@ use Rattle.meaning.specs.Questions.{_unless_, _orelse_}
 use Rattle.meaning.specs.Book.{Gram, numberAt, naturalAt, orderOf}
 use Rattle.halves.specs.Halves.{halvesOf, shifted, signedAt}
 use Rattle.ngrams.specs.declared.Key.{Key}
-use Rattle.ngrams.specs.Parts.{bucketCount, recordsMost, recordSize, recordsFrom, recordsEnd, headAt, linkAt, KeptFrom}
+use Rattle.ngrams.specs.Parts.{bucketCount, recordsMost, recordAt, headAt, linkAt, KeptFrom, KeptRecords}
 
 -- ---- the records
-
--- where record k stands
-abbrev pub recordAt : ℕ → ℕ
-recordAt k = recordsFrom + recordSize * k
 
 -- the words of record k, as many as its order says, and 0 for each that it does not have
 unfoldable pub keyAt : List ℕ → ℕ → Key
@@ -91,10 +87,14 @@ bucketOf key = (key .first % wordSpan * 40503 + key .second % wordSpan * 60493 +
 unfoldable pub bucketAt : List ℕ → ℕ → ℕ
 bucketAt index k = bucketOf (keyAt index k)
 
--- the list has its parts, and n records are not too many
+-- n records are not too many, and the list is long enough for its parts with them
 pub record Room (index : List ℕ) (n : ℕ) : Type 0 where
-  pub parts : recordsEnd ≤ length index
+  pub parts : recordAt n ≤ length index
   pub few : n ≤ recordsMost
+
+-- there is a place for record n
+unfoldable pub hasPlace : List ℕ → ℕ → Bool
+hasPlace index n = ltb n recordsMost && leb (recordAt (n + 1)) (length index)
 
 -- the first n records are indexed
 pub record Indexed (index : List ℕ) (n : ℕ) : Type 0 where
@@ -111,7 +111,7 @@ pub record Cleared (old new : List ℕ) : Type 0 where
 -- record i is indexed too, and the records are kept
 pub record Inserted (old new : List ℕ) (i : ℕ) : Type 0 where
   pub indexed : Indexed new (i + 1)
-  pub kept : KeptFrom recordsFrom old new
+  pub kept : KeptRecords old new
 
 -- ---- what the calls answer
 
@@ -135,7 +135,7 @@ withRepeat found alike order = cond (eqb found 6) 6 (cond (eqb alike 0) found (c
 pub record Compared (old new : List ℕ) (n : ℕ) (r : ℕ) : Type 0 where
   pub answer : r ≡ repeatRefusal old n
   pub indexed : Indexed new n
-  pub kept : KeptFrom recordsFrom old new
+  pub kept : KeptRecords old new
 
 -- ---- a book's n-grams
 

@@ -1,13 +1,14 @@
 // The index of the language model's n-grams, in ONE list that holds what is known of a book, as named parts: the heads of the buckets from 0 on,
-// the links of the records from LINKS on, and the records from RECORDS on, eight numbers each (three words, how many of them are the n-gram's, and the
-// score and the weight in two halves each). What stands from RECORDS_END on is the caller's. A head or a link is 1 + a record's number, or 0.
+// and the records from RECORDS on, eight numbers each (three words, how many of them are the n-gram's, and the score and the weight in two halves
+// each) and the link behind them. A list for fewer records may end behind them; what stands from RECORDS_END on is the caller's. A head or a
+// link is 1 + a record's number, or 0.
 use lines::WORD_SPAN;
 ghost use mathlib.Core.Path.{_≡_};
 ghost use Prim.Native.Nat.{_+_, _≤_, _<_};
 ghost use lib.ListN.{length};
 ghost use Rattle.laws.specs.Index.{latest};
-ghost use Rattle.ngrams.specs.Parts.{bucketCount};
-ghost use Rattle.ngrams.specs.Grams.{recordAt, keyAt, scoreAt, weightAt, wordOr0, putRecord, holds, bucketOf, Room, Indexed, Cleared, Inserted, earlierAlike, withRepeat, Compared};
+ghost use Rattle.ngrams.specs.Parts.{bucketCount, recordAt};
+ghost use Rattle.ngrams.specs.Grams.{keyAt, scoreAt, weightAt, wordOr0, putRecord, holds, bucketOf, Room, hasPlace, Indexed, Cleared, Inserted, earlierAlike, withRepeat, Compared};
 
 // How many buckets there are, how many records there may be, and how many numbers a record has.
 const BUCKETS: usize = 16384;
@@ -16,12 +17,13 @@ pub const RECORDS_MOST: usize = 3 * lines::GRAMS_MOST;
 
 const RECORD_SIZE: usize = 8;
 
-// Where the links begin, where the records begin, and where they end.
-const LINKS: usize = BUCKETS;
+// And with its link.
+pub const RECORD_STEP: usize = RECORD_SIZE + 1;
 
-const RECORDS: usize = LINKS + RECORDS_MOST;
+// Where the records begin, and where they end.
+pub const RECORDS: usize = BUCKETS;
 
-pub const RECORDS_END: usize = RECORDS + RECORD_SIZE * RECORDS_MOST;
+pub const RECORDS_END: usize = RECORDS + RECORD_STEP * RECORDS_MOST;
 
 // The words of an n-gram in their order, 0 for each that it does not have, and how many it has: 3 for a triple, 2 for a pair, 1 for a word.
 pub struct Key {
@@ -38,7 +40,7 @@ fn key_at(index: &[u16], k: usize) -> Key
     requires { ⌜ recordAt (k + 1) ≤ length (now index) ⌝ }
     ensures { λ r. ⌜ r ≡ keyAt (now (index .entry)) k ⌝ }
 {
-    let at = RECORDS + RECORD_SIZE * k;
+    let at = RECORDS + RECORD_STEP * k;
     Key {
         first: halves::number_at(index, at),
         second: halves::number_at(index, at + 1),
@@ -52,7 +54,7 @@ fn is_key(index: &[u16], k: usize, key: Key) -> bool
     requires { ⌜ recordAt (k + 1) ≤ length (now index) ⌝ }
     ensures { λ r. ⌜ r ≡ holds (now (index .entry)) key k ⌝ }
 {
-    let at = RECORDS + RECORD_SIZE * k;
+    let at = RECORDS + RECORD_STEP * k;
     if halves::number_at(index, at) == key.first {
         if halves::number_at(index, at + 1) == key.second {
             if halves::number_at(index, at + 2) == key.third {
@@ -85,7 +87,7 @@ pub fn find(index: &[u16], count: usize, key: Key) -> usize
         if is_key(index, k, key) {
             return at;
         }
-        at = halves::number_at(index, LINKS + k);
+        at = halves::number_at(index, RECORDS + RECORD_STEP * k + RECORD_SIZE);
     }
     0
 }
@@ -95,7 +97,7 @@ pub fn score_at(index: &[u16], k: usize) -> i64
     requires { ⌜ recordAt (k + 1) ≤ length (now index) ⌝ }
     ensures { λ r. ⌜ r ≡ scoreAt (now (index .entry)) k ⌝ }
 {
-    halves::signed_at(index, RECORDS + RECORD_SIZE * k + 4)
+    halves::signed_at(index, RECORDS + RECORD_STEP * k + 4)
 }
 
 // The back-off weight of record k.
@@ -103,7 +105,17 @@ pub fn weight_at(index: &[u16], k: usize) -> i64
     requires { ⌜ recordAt (k + 1) ≤ length (now index) ⌝ }
     ensures { λ r. ⌜ r ≡ weightAt (now (index .entry)) k ⌝ }
 {
-    halves::signed_at(index, RECORDS + RECORD_SIZE * k + 6)
+    halves::signed_at(index, RECORDS + RECORD_STEP * k + 6)
+}
+
+// Is there a place for record n? A book has no more than RECORDS_MOST (question 5), and the list may be shorter than for so many.
+pub fn has_place(index: &[u16], n: usize) -> bool
+    ensures { λ r. ⌜ r ≡ hasPlace (now (index .entry)) n ⌝ }
+{
+    if RECORDS_MOST <= n {
+        return false;
+    }
+    RECORDS + RECORD_STEP * (n + 1) <= index.len()
 }
 
 // ---- the writers: each says from where on the list is as it was
@@ -123,7 +135,7 @@ pub fn put_record(index: &mut [u16], k: usize, line: &[i32])
     requires { ⌜ recordAt (k + 1) ≤ length (now index) ⌝ }
     ensures { λ _. ⌜ now (index .exit) ≡ putRecord (now (index .entry)) k (now (line .entry)) ⌝ }
 {
-    let at = RECORDS + RECORD_SIZE * k;
+    let at = RECORDS + RECORD_STEP * k;
     let n = lines::order_of(line);
     index[at] = word_or_0(line, n, 1);
     index[at + 1] = word_or_0(line, n, 2);
@@ -152,7 +164,7 @@ fn insert(index: &mut [u16], i: usize)
     ensures { λ _. ⌜ Inserted (now (index .entry)) (now (index .exit)) i ⌝ }
 {
     let h = bucket(key_at(index, i));
-    index[LINKS + i] = index[h];
+    index[RECORDS + RECORD_STEP * i + RECORD_SIZE] = index[h];
     index[h] = (i + 1) as u16;
 }
 

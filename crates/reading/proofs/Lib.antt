@@ -1,3 +1,4 @@
 pub mod Walk
 pub mod Reading
 pub mod TextReplies
+pub mod Room

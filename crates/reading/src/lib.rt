@@ -1,4 +1,4 @@
-// Reading a book's text: questions 1 to 7, and its numbers.
+// Reading a book's text: questions 1 to 7 and 20, and its numbers.
 use book::grams;
 use book::survey;
 use book::survey::Survey;
@@ -12,11 +12,15 @@ ghost use Prim.Native.Nat.{_≤_};
 ghost use lib.ListN.{length};
 ghost use Rattle.laws.specs.Lists.{all};
 ghost use Rattle.meaning.specs.Questions.{number};
-ghost use Rattle.meaning.specs.Book.{InText, isBookText, isWhole, textLines, loadedOf};
-ghost use Rattle.meaning.specs.Reply.{readReply, reply, readBook, readBookList};
-ghost use Rattle.ngrams.specs.Parts.{recordsEnd};
+ghost use Rattle.meaning.specs.Book.{InText, isBookText, isWhole, textLines};
+ghost use Rattle.meaning.specs.Reply.{readReply, readBook, readBookList};
 ghost use Rattle.book.specs.Survey.{noTally};
-ghost use Rattle.reading.specs.Text.{TextSurveyIs, textRefusal, countedAs};
+ghost use Rattle.reading.specs.Text.{TextSurveyIs, textRefusal, countedAs, CheckedAs, shortText, IsRoomFor};
+
+// How many bytes a short text has at most, and how long the list is that has room for its n-grams: the line of one has eight bytes at least.
+const SHORT_TEXT: usize = 10240;
+
+const SHORT_INDEX: usize = ngrams::RECORDS + ngrams::RECORD_STEP * (SHORT_TEXT / 8);
 
 // What is known of the lines of a text that are all good and whole, and how many numbers they have; or that one is not.
 enum TextSurvey {
@@ -24,11 +28,10 @@ enum TextSurvey {
     Broken,
 }
 
-// Surveys a text, whatever it is; `index` gets the records of its n-grams, and the tally, all zero before, how many lines there
-// are of each kind. Where a line is not good, or not whole, what the two hold afterwards is not said. No whole line has more
-// than 20 numbers.
+// Surveys a text, whatever it is; `index` gets the records of its n-grams, as far as it has room, and the tally, all zero before, how
+// many lines there are of each kind. Where a line is not good, or not whole, what the two hold afterwards is not said. No whole line
+// has more than 20 numbers.
 fn survey_text(text: &[u8], index: &mut [u16], tally: &mut [usize]) -> TextSurvey
-    requires { ⌜ recordsEnd ≤ length (now index) ⌝ }
     requires { ⌜ now tally ≡ noTally ⌝ }
     ensures { λ r. ⌜ TextSurveyIs (now (text .entry)) (now (index .entry)) (now (index .exit)) (now (tally .exit)) r ⌝ }
 {
@@ -79,18 +82,46 @@ fn counted(loaded: Loaded, count: usize) -> Read
     }
 }
 
-// Questions 1 to 6, of a text; how many numbers it has.
-fn check_text(text: &[u8]) -> Read
-    ensures { λ r. ⌜ readReply r ≡ reply (textRefusal (now (text .entry))) (length (loadedOf (now (text .entry)))) ⌝ }
+// Questions 1 to 6 and 20, of a text; how many numbers it has. `index` is for the records of its n-grams.
+fn check_in(text: &[u8], index: &mut [u16]) -> Read
+    requires { ⌜ IsRoomFor (length (now text)) (now index) ⌝ }
+    ensures { λ r. ⌜ CheckedAs (now (text .entry)) r ⌝ }
 {
-    let mut index = [0u16; ngrams::RECORDS_END];
     let mut tally = [0usize; survey::TALLY_SIZE];
-    let surveyed = survey_text(text, &mut index, &mut tally);
+    let surveyed = survey_text(text, index, &mut tally);
     let TextSurvey::Whole { survey, count } = surveyed else {
         return Read::Refused(refusal_of(text));
     };
-    let loaded = load::settle_whole(survey, &mut index, &tally);
+    let loaded = load::settle_whole(survey, index, &tally);
     counted(loaded, count)
+}
+
+// The same, of a short text, in a shorter list: a list is cleared before it is used, and to clear the whole one takes longer than to read
+// such a text.
+fn check_short(text: &[u8]) -> Read
+    requires { ⌜ length (now text) ≤ shortText ⌝ }
+    ensures { λ r. ⌜ CheckedAs (now (text .entry)) r ⌝ }
+{
+    let mut index = [0u16; SHORT_INDEX];
+    check_in(text, &mut index)
+}
+
+// The same, of any text.
+fn check_long(text: &[u8]) -> Read
+    ensures { λ r. ⌜ CheckedAs (now (text .entry)) r ⌝ }
+{
+    let mut index = [0u16; ngrams::RECORDS_END];
+    check_in(text, &mut index)
+}
+
+// The same: the shorter list serves the shorter texts.
+fn check_text(text: &[u8]) -> Read
+    ensures { λ r. ⌜ CheckedAs (now (text .entry)) r ⌝ }
+{
+    if text.len() <= SHORT_TEXT {
+        return check_short(text);
+    }
+    check_long(text)
 }
 
 // Reads a book's text into a lent list, and says how many numbers it wrote; a refusal changes nothing.

@@ -3,7 +3,6 @@
 use mathlib.Core.Path.{_≡_, refl, sym, ap, _∙_, subst}
 use mathlib.Core.List.{List, [], _∷_}
 use Prim.Native.Nat.{ℕ, zero, suc, _+_, _*_, _/_, _%_, _≤_, _<_}
-use native.Mathlib.Decide.{ℕ-discrete}
 use native.Mathlib.Omega.{arith}
 use lib.Dec.{eqb}
 use lib.IntN.{ℤ, pos}
@@ -11,11 +10,11 @@ use lib.ListN.{length, getD, set, length-set}
 use lib.Seq.{getD-set-same, getD-set-other}
 use borrow.Author.Tests.{eq-eqb, ne-eqb}
 use Rattle.laws.specs.Integers.{natOf}
-use Rattle.laws.specs.Lists.{setFrom}
-use Rattle.laws.proofs.Fields.{from-long, from-far, from-first, from-near}
+use Rattle.laws.specs.Lists.{setAt, setFrom}
+use Rattle.laws.proofs.Fields.{set-long, set-far, set-near, from-long, from-far, from-first, from-near}
 use Rattle.laws.proofs.Tests.{and-first, and-second}
 use Rattle.meaning.specs.declared.State.{State}
-use Rattle.store.specs.Store.{placeAt, headAt, linkAt, wordsOf, Storable, Put, Spare, Relinked, isSame, Zeroed}
+use Rattle.store.specs.Store.{placeFrom, numberAt, natAt, placeAt, headAt, linkAt, wordsOf, Storable, Put, Spare, Relinked, isSame, Zeroed}
 use Rattle.store.specs.declared.Place.{Place}
 
 -- ---- the test of two states, as the code goes through it
@@ -59,44 +58,78 @@ pub record Sized (x : State) : Type 0 where
   pub covered-fits : x .covered < 4294967296
   pub r-fits : x .r < 65536
 
--- a place whose six numbers are the same
-pub places-same : (st new : List ℤ) (j : ℕ) → getD new (8 * j) (pos 0) ≡ getD st (8 * j) (pos 0) → ((f : ℕ) → 1 ≤ f → f < 6 → getD new (8 * j + f) (pos 0) ≡ getD st (8 * j + f) (pos 0)) → placeAt new j ≡ placeAt st j
+-- ---- the numbers of a place
+
+pub first-number : (p : ℕ) → p ≡ p + 0
+first-number p = omega arith
+
+-- in a store that is as long, a place stands where it stood
+still : (st new : List ℤ) → length new ≡ length st → (j f : ℕ) (z : ℤ) → getD new (placeFrom st j + f) (pos 0) ≡ z → numberAt new j f ≡ z
+still st new long j f z = subst (λ (n : ℕ). getD new (n / 8 + 7 * j + f) (pos 0) ≡ z) (sym long)
+
+-- a place whose numbers are the same, but for its link
+pub places-same : (st new : List ℤ) (j : ℕ) → ((f : ℕ) → f < 7 → (f ≡ 3 → ⊥) → numberAt new j f ≡ numberAt st j f) → placeAt new j ≡ placeAt st j
 unfolding placeAt
-places-same st new j z e =
+places-same st new j e =
     λ i. record {
       state =
           record {
-            word1 = natOf (z i) / 65536 % 65536;
-            word2 = natOf (z i) % 65536;
-            covered = natOf (e 1 (omega arith) (omega arith) i) % 4294967296;
-            r = natOf (e 2 (omega arith) (omega arith) i) / 64 % 65536;
-            score = e 3 (omega arith) (omega arith) i;
+            word1 = natOf (e 0 (omega arith) (λ z. omega arith) i) / 65536 % 65536;
+            word2 = natOf (e 0 (omega arith) (λ z. omega arith) i) % 65536;
+            covered = natOf (e 1 (omega arith) (λ z. omega arith) i) % 4294967296;
+            r = natOf (e 2 (omega arith) (λ z. omega arith) i) / 64 % 65536;
+            score = e 4 (omega arith) (λ z. omega arith) i;
           };
-      size = natOf (e 2 (omega arith) (omega arith) i) % 64;
-      parent = natOf (e 4 (omega arith) (omega arith) i);
-      step = natOf (e 5 (omega arith) (omega arith) i);
+      size = natOf (e 2 (omega arith) (λ z. omega arith) i) % 64;
+      parent = natOf (e 5 (omega arith) (λ z. omega arith) i);
+      step = natOf (e 6 (omega arith) (λ z. omega arith) i);
     }
 
--- ---- the six writes of `put_place`
+-- ---- the six writes of `put_place`: two runs, with the link between them
 module _ (st : List ℤ) (k : ℕ) (h : 8 * k + 8 ≤ length st) (a b c s d e : ℤ) where
+  abbrev begun : List ℤ
+  begun = setFrom st (placeFrom st k) (a ∷ b ∷ c ∷ [])
+
   abbrev after : List ℤ
-  after = setFrom st (8 * k) (a ∷ b ∷ c ∷ s ∷ d ∷ e ∷ [])
+  after = setAt begun (placeFrom st k) 4 (s ∷ d ∷ e ∷ [])
 
-  first : getD after (8 * k) (pos 0) ≡ a
-  first = from-first a (b ∷ c ∷ s ∷ d ∷ e ∷ []) st (8 * k) (pos 0) (omega arith)
+  begun-long : length begun ≡ length st
+  begun-long = from-long st (placeFrom st k) (a ∷ b ∷ c ∷ [])
 
-  near : (j : ℕ) → j < 5 → getD after (8 * k + suc j) (pos 0) ≡ getD (b ∷ c ∷ s ∷ d ∷ e ∷ []) j (pos 0)
-  near j l = from-near a (b ∷ c ∷ s ∷ d ∷ e ∷ []) st (8 * k) j (pos 0) l (omega arith)
+  after-long : length after ≡ length st
+  after-long = set-long begun (placeFrom st k) 4 (s ∷ d ∷ e ∷ []) ∙ begun-long
+
+  -- a number that none of the writes hits
+  away : (p : ℕ) → (placeFrom st k ≤ p → placeFrom st k + 3 ≤ p) → (placeFrom st k + 4 ≤ p → placeFrom st k + 7 ≤ p) → getD after p (pos 0) ≡ getD st p (pos 0)
+  away p m n = set-far (s ∷ d ∷ e ∷ []) begun (placeFrom st k) 4 p (pos 0) n ∙ from-far (a ∷ b ∷ c ∷ []) st (placeFrom st k) p (pos 0) m
+
+  first : numberAt after k 0 ≡ a
+  first =
+      still st after after-long k 0 a
+      (subst (λ (p : ℕ). getD after p (pos 0) ≡ a) (first-number (placeFrom st k))
+      (set-far (s ∷ d ∷ e ∷ []) begun (placeFrom st k) 4 (placeFrom st k) (pos 0) (λ l. omega arith) ∙ from-first a (b ∷ c ∷ []) st (placeFrom st k) (pos 0) (omega arith)))
+
+  front : (j : ℕ) → j < 2 → numberAt after k (suc j) ≡ getD (b ∷ c ∷ []) j (pos 0)
+  front j l =
+      still st after after-long k (suc j) _
+      (set-far (s ∷ d ∷ e ∷ []) begun (placeFrom st k) 4 (placeFrom st k + suc j) (pos 0) (λ m. omega arith) ∙ from-near a (b ∷ c ∷ []) st (placeFrom st k) j (pos 0) l (omega arith))
+
+  back : (j : ℕ) → j < 3 → numberAt after k (4 + j) ≡ getD (s ∷ d ∷ e ∷ []) j (pos 0)
+  back j l = still st after after-long k (4 + j) _ (set-near (s ∷ d ∷ e ∷ []) begun (placeFrom st k) 4 j (pos 0) l (omega (arith, begun-long)))
 
   -- a number of another place
-  away : (j f : ℕ) → (j ≡ k → ⊥) → f < 8 → getD after (8 * j + f) (pos 0) ≡ getD st (8 * j + f) (pos 0)
-  away j f n l = from-far (a ∷ b ∷ c ∷ s ∷ d ∷ e ∷ []) st (8 * k) (8 * j + f) (pos 0) (λ (g : 8 * k ≤ 8 * j + f). omega arith)
-
-  away-0 : (j : ℕ) → (j ≡ k → ⊥) → getD after (8 * j) (pos 0) ≡ getD st (8 * j) (pos 0)
-  away-0 j n = from-far (a ∷ b ∷ c ∷ s ∷ d ∷ e ∷ []) st (8 * k) (8 * j) (pos 0) (λ (g : 8 * k ≤ 8 * j). omega arith)
+  other-place : (j f : ℕ) → (j ≡ k → ⊥) → f < 7 → numberAt after j f ≡ numberAt st j f
+  other-place j f n l =
+      still st after after-long j f _ (away (placeFrom st j + f) (λ (g : placeFrom st k ≤ placeFrom st j + f). omega arith) (λ (g : placeFrom st k + 4 ≤ placeFrom st j + f). omega arith))
 
   pub put-spare : Spare st after k
-  put-spare = record { numbers = λ p f. from-far (a ∷ b ∷ c ∷ s ∷ d ∷ e ∷ []) st (8 * k) p (pos 0) f }
+  unfolding linkAt
+  put-spare =
+      record {
+        heads = λ g l. away g (λ (m : placeFrom st k ≤ g). omega arith) (λ (m : placeFrom st k + 4 ≤ g). omega arith);
+        links = λ j. ap natOf (still st after after-long j 3 _ (away (placeFrom st j + 3) (λ (m : placeFrom st k ≤ placeFrom st j + 3). omega arith) (λ (m : placeFrom st k + 4 ≤ placeFrom st j + 3). omega arith)));
+        numbers = other-place;
+      }
 
   pub put-all : (x : Place) → Sized (x .state) → Storable x → a ≡ pos (wordsOf (x .state)) → b ≡ pos (x .state .covered) → c ≡ pos (x .state .r * 64 + x .size)
       → s ≡ x .state .score → d ≡ pos (x .parent) → e ≡ pos (x .step) → Put st after k x
@@ -106,11 +139,11 @@ module _ (st : List ℤ) (k : ℕ) (h : 8 * k + 8 ≤ length st) (a b c s d e : 
       let w2 = z .word2-fits in
       let wr = z .r-fits in
       let ws = y .size-fits in
-      let words : natOf (getD after (8 * k) (pos 0)) ≡ x .state .word1 * 65536 + x .state .word2 = ap natOf (first ∙ ea) in
-      let rest : natOf (getD after (8 * k + 2) (pos 0)) ≡ x .state .r * 64 + x .size = ap natOf (near 1 (omega arith) ∙ ec) in
-      let covered : natOf (getD after (8 * k + 1) (pos 0)) ≡ x .state .covered = ap natOf (near 0 (omega arith) ∙ eb) in
+      let words : natAt after k 0 ≡ x .state .word1 * 65536 + x .state .word2 = ap natOf (first ∙ ea) in
+      let rest : natAt after k 2 ≡ x .state .r * 64 + x .size = ap natOf (front 1 (omega arith) ∙ ec) in
+      let covered : natAt after k 1 ≡ x .state .covered = ap natOf (front 0 (omega arith) ∙ eb) in
       record {
-        long = from-long st (8 * k) (a ∷ b ∷ c ∷ s ∷ d ∷ e ∷ []);
+        long = after-long;
         at =
             λ i. record {
               state =
@@ -119,35 +152,41 @@ module _ (st : List ℤ) (k : ℕ) (h : 8 * k + 8 ≤ length st) (a b c s d e : 
                     word2 = low-part _ (x .state .word1) (x .state .word2) words w2 i;
                     covered = whole _ (x .state .covered) covered (z .covered-fits) i;
                     r = r-part _ (x .state .r) (x .size) rest wr ws i;
-                    score = (near 2 (omega arith) ∙ es) i;
+                    score = (back 0 (omega arith) ∙ es) i;
                   };
               size = size-part _ (x .state .r) (x .size) rest ws i;
-              parent = ap natOf (near 3 (omega arith) ∙ ed) i;
-              step = ap natOf (near 4 (omega arith) ∙ ee) i;
+              parent = ap natOf (back 1 (omega arith) ∙ ed) i;
+              step = ap natOf (back 2 (omega arith) ∙ ee) i;
             };
-        other = λ j n. places-same st after j (away-0 j n) (λ f l m. away j f n (omega arith));
+        other = λ j n. places-same st after j (λ f l _. other-place j f n l);
       }
 
 -- ---- the two writes of `link_place`
 module _ (st : List ℤ) (k h : ℕ) (x y : ℤ) (hk : 8 * k + 8 ≤ length st) (hh : 8 * h + 8 ≤ length st) where
   abbrev linked : List ℤ
-  linked = set (set st (8 * k + 7) x) (8 * h + 6) y
+  linked = set (set st (placeFrom st k + 3) x) h y
 
-  other-number : (p : ℕ) → (p ≡ 8 * k + 7 → ⊥) → (p ≡ 8 * h + 6 → ⊥) → getD linked p (pos 0) ≡ getD st p (pos 0)
-  other-number p m n = getD-set-other (set st (8 * k + 7) x) (8 * h + 6) p y (pos 0) n ∙ getD-set-other st (8 * k + 7) p x (pos 0) m
+  linked-long : length linked ≡ length st
+  linked-long = length-set (set st (placeFrom st k + 3) x) h y ∙ length-set st (placeFrom st k + 3) x
 
-  pub relinked : x ≡ getD st (8 * h + 6) (pos 0) → y ≡ pos (k + 1) → Relinked st linked k h
+  other-number : (p : ℕ) → (p ≡ placeFrom st k + 3 → ⊥) → (p ≡ h → ⊥) → getD linked p (pos 0) ≡ getD st p (pos 0)
+  other-number p m n = getD-set-other (set st (placeFrom st k + 3) x) h p y (pos 0) n ∙ getD-set-other st (placeFrom st k + 3) p x (pos 0) m
+
+  -- a number of a place that is not the link of k: no head lies in a place
+  other-link : (j f : ℕ) → f < 7 → (placeFrom st j + f ≡ placeFrom st k + 3 → ⊥) → numberAt linked j f ≡ numberAt st j f
+  other-link j f l n = still st linked linked-long j f _ (other-number (placeFrom st j + f) n (λ z. omega arith))
+
+  pub relinked : x ≡ getD st h (pos 0) → y ≡ pos (k + 1) → Relinked st linked k h
   unfolding headAt linkAt
   relinked ex ey =
       record {
-        long = length-set (set st (8 * k + 7) x) (8 * h + 6) y ∙ length-set st (8 * k + 7) x;
-        numbers = other-number;
-        places = λ j. places-same st linked j (other-number (8 * j) (λ z. omega arith) (λ z. omega arith)) (λ f l m. other-number (8 * j + f) (λ z. omega arith) (λ z. omega arith));
-        number = getD-set-same (set st (8 * k + 7) x) (8 * h + 6) y (pos 0) (rw length-set (omega arith)) ∙ ey;
-        head = ap natOf (getD-set-same (set st (8 * k + 7) x) (8 * h + 6) y (pos 0) (rw length-set (omega arith)) ∙ ey);
-        link = ap natOf (getD-set-other (set st (8 * k + 7) x) (8 * h + 6) (8 * k + 7) y (pos 0) (λ z. omega arith) ∙ getD-set-same st (8 * k + 7) x (pos 0) (omega arith) ∙ ex);
-        heads = λ g n. ap natOf (other-number (8 * g + 6) (λ z. omega arith) (λ z. n (omega arith)));
-        links = λ j n. ap natOf (other-number (8 * j + 7) (λ z. n (omega arith)) (λ z. omega arith));
+        long = linked-long;
+        places = λ j. places-same st linked j (λ f l n. other-link j f l (λ z. omega arith));
+        numbers = λ j f n l. other-link j f l (λ z. omega arith);
+        head = getD-set-same (set st (placeFrom st k + 3) x) h y (pos 0) (rw length-set (omega arith)) ∙ ey;
+        heads = λ g l n. other-number g (λ z. omega arith) n;
+        link = ap natOf (still st linked linked-long k 3 _ (getD-set-other (set st (placeFrom st k + 3) x) h (placeFrom st k + 3) y (pos 0) (λ z. omega arith) ∙ getD-set-same st (placeFrom st k + 3) x (pos 0) (omega arith) ∙ ex));
+        links = λ j n. ap natOf (other-link j 3 (omega arith) (λ z. n (omega arith)));
       }
 
 -- ---- the eight writes of `clear_place`
@@ -155,43 +194,41 @@ module _ (st : List ℤ) (k h : ℕ) (hk : 8 * k + 8 ≤ length st) (hh : 8 * h 
   abbrev six : List ℤ
   six = pos 0 ∷ pos 0 ∷ pos 0 ∷ pos 0 ∷ pos 0 ∷ pos 0 ∷ []
 
-  abbrev begun : List ℤ
-  begun = setFrom st (8 * k) six
+  abbrev emptied : List ℤ
+  emptied = setFrom st (placeFrom st k) (pos 0 ∷ six)
 
   abbrev zeroes : List ℤ
-  zeroes = set (set begun (8 * k + 7) (pos 0)) (8 * h + 6) (pos 0)
+  zeroes = set emptied h (pos 0)
 
-  begun-long : length begun ≡ length st
-  begun-long = from-long st (8 * k) six
+  emptied-long : length emptied ≡ length st
+  emptied-long = from-long st (placeFrom st k) (pos 0 ∷ six)
 
-  -- a number that is none of the last two writes'
-  under : (p : ℕ) → (p ≡ 8 * k + 7 → ⊥) → (p ≡ 8 * h + 6 → ⊥) → getD zeroes p (pos 0) ≡ getD begun p (pos 0)
-  under p m n = getD-set-other (set begun (8 * k + 7) (pos 0)) (8 * h + 6) p (pos 0) (pos 0) n ∙ getD-set-other begun (8 * k + 7) p (pos 0) (pos 0) m
+  zeroes-long : length zeroes ≡ length st
+  zeroes-long = length-set emptied h (pos 0) ∙ emptied-long
 
-  small : (f : ℕ) → f < 6 → getD begun (8 * k + f) (pos 0) ≡ pos 0
-  small zero l = let z : 8 * k + 0 ≡ 8 * k = omega arith in rw z (from-first (pos 0) (pos 0 ∷ pos 0 ∷ pos 0 ∷ pos 0 ∷ pos 0 ∷ []) st (8 * k) (pos 0) (omega arith))
-  small (suc f) l = from-near (pos 0) (pos 0 ∷ pos 0 ∷ pos 0 ∷ pos 0 ∷ pos 0 ∷ []) st (8 * k) f (pos 0) (omega arith) (omega arith) ∙ all-zero f (omega arith)
+  small : (f : ℕ) → f < 7 → getD emptied (placeFrom st k + f) (pos 0) ≡ pos 0
+  small zero l = subst (λ (p : ℕ). getD emptied p (pos 0) ≡ pos 0) (first-number (placeFrom st k)) (from-first (pos 0) six st (placeFrom st k) (pos 0) (omega arith))
+  small (suc f) l = from-near (pos 0) six st (placeFrom st k) f (pos 0) (omega arith) (omega arith) ∙ all-zero f (omega arith)
     where
-      all-zero : (f : ℕ) → f < 5 → getD (pos 0 ∷ pos 0 ∷ pos 0 ∷ pos 0 ∷ pos 0 ∷ []) f (pos 0) ≡ pos 0
+      all-zero : (f : ℕ) → f < 6 → getD six f (pos 0) ≡ pos 0
       all-zero zero l = refl
       all-zero (suc zero) l = refl
       all-zero (suc (suc zero)) l = refl
       all-zero (suc (suc (suc zero))) l = refl
       all-zero (suc (suc (suc (suc zero)))) l = refl
-      all-zero (suc (suc (suc (suc (suc f))))) l = absurd (omega arith)
+      all-zero (suc (suc (suc (suc (suc zero))))) l = refl
+      all-zero (suc (suc (suc (suc (suc (suc f)))))) l = absurd (omega arith)
 
-  at-place : (f : ℕ) → f < 8 → (f ≡ 6 → ⊥) → Dec (f ≡ 7) → getD zeroes (8 * k + f) (pos 0) ≡ pos 0
-  at-place f l n (yes e) =
-      subst (λ (g : ℕ). getD zeroes (8 * k + g) (pos 0) ≡ pos 0) (sym e)
-      (getD-set-other (set begun (8 * k + 7) (pos 0)) (8 * h + 6) (8 * k + 7) (pos 0) (pos 0) (λ z. omega arith) ∙ getD-set-same begun (8 * k + 7) (pos 0) (pos 0) (omega (arith, begun-long)))
-  at-place f l n (no e) = under (8 * k + f) (λ z. e (omega arith)) (λ z. omega arith) ∙ small f (omega arith)
+  -- a number of a place: no head lies in it
+  under : (j f : ℕ) (z : ℤ) → getD emptied (placeFrom st j + f) (pos 0) ≡ z → numberAt zeroes j f ≡ z
+  under j f z e = still st zeroes zeroes-long j f z (getD-set-other emptied h (placeFrom st j + f) (pos 0) (pos 0) (λ q. omega arith) ∙ e)
 
   pub zeroed : Zeroed st zeroes k h
   zeroed =
       record {
-        long = length-set (set begun (8 * k + 7) (pos 0)) (8 * h + 6) (pos 0) ∙ length-set begun (8 * k + 7) (pos 0) ∙ begun-long;
-        place = λ f l n. at-place f l n (ℕ-discrete f 7);
-        head = getD-set-same (set begun (8 * k + 7) (pos 0)) (8 * h + 6) (pos 0) (pos 0) (rw length-set (omega (arith, begun-long)));
-        places = λ j f m l n. under (8 * j + f) (λ z. omega arith) (λ z. omega arith) ∙ from-far six st (8 * k) (8 * j + f) (pos 0) (λ (g : 8 * k ≤ 8 * j + f). omega arith);
-        heads = λ g m. under (8 * g + 6) (λ z. omega arith) (λ z. m (omega arith)) ∙ from-far six st (8 * k) (8 * g + 6) (pos 0) (λ (z : 8 * k ≤ 8 * g + 6). omega arith);
+        long = zeroes-long;
+        place = λ f l. under k f (pos 0) (small f l);
+        head = getD-set-same emptied h (pos 0) (pos 0) (omega (arith, emptied-long));
+        places = λ j f n l. under j f _ (from-far (pos 0 ∷ six) st (placeFrom st k) (placeFrom st j + f) (pos 0) (λ (g : placeFrom st k ≤ placeFrom st j + f). omega arith));
+        heads = λ g l n. getD-set-other emptied h g (pos 0) (pos 0) n ∙ from-far (pos 0 ∷ six) st (placeFrom st k) g (pos 0) (λ (m : placeFrom st k ≤ g). omega arith);
       }

@@ -1,4 +1,4 @@
--- The store as a function from places to what they hold. It is a list of integers, eight to a place; src/lib.rt says what each is.
+-- The store as a function from places to what they hold. It is a list of integers, eight to a place: a head and seven numbers; src/lib.rt says what each is.
 -- Reading is total (a negative number counts as 0, and what is too large for its field is cut), so nothing is asked of what a store held before.
 use mathlib.Core.Path.{_≡_}
 use mathlib.Core.Bool.{Bool, true, false, _&&_}
@@ -17,31 +17,43 @@ use Rattle.store.specs.declared.Found.the-variants.{At, Nothing}
 
 -- ---- reading
 
--- number f of the place k, as a natural
+-- as many places, and as many buckets, as there are eight numbers
+abbrev pub slots : List ℤ → ℕ
+slots st = length st / 8
+
+-- the heads of the buckets stand first, then the places, seven numbers to each
+abbrev pub placeFrom : List ℤ → ℕ → ℕ
+placeFrom st k = slots st + 7 * k
+
+-- number f of the place k
+abbrev pub numberAt : List ℤ → ℕ → ℕ → ℤ
+numberAt st k f = getD st (placeFrom st k + f) (pos 0)
+
+-- the same as a natural
 abbrev pub natAt : List ℤ → ℕ → ℕ → ℕ
-natAt st k f = natOf (getD st (8 * k + f) (pos 0))
+natAt st k f = natOf (numberAt st k f)
 
 unfoldable pub placeAt : List ℤ → ℕ → Place
 placeAt st k =
     record {
       state =
           record {
-            word1 = natOf (getD st (8 * k) (pos 0)) / 65536 % 65536;
-            word2 = natOf (getD st (8 * k) (pos 0)) % 65536;
+            word1 = natAt st k 0 / 65536 % 65536;
+            word2 = natAt st k 0 % 65536;
             covered = natAt st k 1 % 4294967296;
             r = natAt st k 2 / 64 % 65536;
-            score = getD st (8 * k + 3) (pos 0);
+            score = numberAt st k 4;
           };
       size = natAt st k 2 % 64;
-      parent = natAt st k 4;
-      step = natAt st k 5;
+      parent = natAt st k 5;
+      step = natAt st k 6;
     }
 
 unfoldable pub headAt : List ℤ → ℕ → ℕ
-headAt st h = natAt st h 6
+headAt st h = natOf (getD st h (pos 0))
 
 unfoldable pub linkAt : List ℤ → ℕ → ℕ
-linkAt st k = natAt st k 7
+linkAt st k = natAt st k 3
 
 -- ---- writing
 
@@ -61,19 +73,20 @@ pub record Put (old new : List ℤ) (k : ℕ) (x : Place) : Type 0 where
   pub at : placeAt new k ≡ x
   pub other : (j : ℕ) → (j ≡ k → ⊥) → placeAt new j ≡ placeAt old j
 
--- all but the numbers 0 to 5 of the place k are as they were
+-- the heads, the links and every number of the places other than k are as they were
 pub record Spare (old new : List ℤ) (k : ℕ) : Type 0 where
-  pub numbers : (p : ℕ) → (8 * k ≤ p → 8 * k + 6 ≤ p) → getD new p (pos 0) ≡ getD old p (pos 0)
+  pub heads : (h : ℕ) → h < slots old → getD new h (pos 0) ≡ getD old h (pos 0)
+  pub links : (j : ℕ) → linkAt new j ≡ linkAt old j
+  pub numbers : (j f : ℕ) → (j ≡ k → ⊥) → f < 7 → numberAt new j f ≡ numberAt old j f
 
 -- the place k is linked in front of the bucket h, and nothing else changed
 pub record Relinked (old new : List ℤ) (k h : ℕ) : Type 0 where
   pub long : length new ≡ length old
-  pub numbers : (p : ℕ) → (p ≡ 8 * k + 7 → ⊥) → (p ≡ 8 * h + 6 → ⊥) → getD new p (pos 0) ≡ getD old p (pos 0)
   pub places : (j : ℕ) → placeAt new j ≡ placeAt old j
-  pub number : getD new (8 * h + 6) (pos 0) ≡ pos (k + 1)
-  pub head : headAt new h ≡ k + 1
+  pub numbers : (j f : ℕ) → (j ≡ k → ⊥) → f < 7 → numberAt new j f ≡ numberAt old j f
+  pub head : getD new h (pos 0) ≡ pos (k + 1)
+  pub heads : (g : ℕ) → g < slots old → (g ≡ h → ⊥) → getD new g (pos 0) ≡ getD old g (pos 0)
   pub link : linkAt new k ≡ headAt old h
-  pub heads : (g : ℕ) → (g ≡ h → ⊥) → headAt new g ≡ headAt old g
   pub links : (j : ℕ) → (j ≡ k → ⊥) → linkAt new j ≡ linkAt old j
 
 -- ---- the index
@@ -87,10 +100,9 @@ bucketOf n x =
 pub record Indexed (st : List ℤ) (count : ℕ) : Type 0 where
   pub room : 8 ≤ length st
   pub few : 8 * count ≤ length st
-  pub unused : (k f : ℕ) → count ≤ k → f < 8 → (f ≡ 6 → ⊥) → getD st (8 * k + f) (pos 0) ≡ pos 0
-  pub plain : (h : ℕ) → getD st (8 * h + 6) (pos 0) ≡ pos (headAt st h)
-  pub past : (h : ℕ) → length st / 8 ≤ h → headAt st h ≡ 0
-  pub chained : Chained (λ k. bucketOf (length st / 8) (placeAt st k .state)) (headAt st) (linkAt st) (length st / 8) count
+  pub unused : (k f : ℕ) → count ≤ k → f < 7 → numberAt st k f ≡ pos 0
+  pub plain : (h : ℕ) → h < slots st → getD st h (pos 0) ≡ pos (headAt st h)
+  pub chained : Chained (λ k. bucketOf (slots st) (placeAt st k .state)) (headAt st) (linkAt st) (slots st) count
 
 -- ---- finding
 
@@ -100,7 +112,7 @@ isSame a b = eqb (a .word1) (b .word1) && (eqb (a .word2) (b .word2) && (eqb (a 
 
 -- what find_equal keeps on its way along the chain of x's bucket; at is 1 + the place to look at next, or 0
 abbrev pub Way : List ℤ → ℕ → State → ℕ → Type 0
-Way st count x at = Walk (λ k. bucketOf (length st / 8) (placeAt st k .state)) (λ k. isSame (placeAt st k .state) x) (bucketOf (length st / 8) x) count at
+Way st count x at = Walk (λ k. bucketOf (slots st) (placeAt st k .state)) (λ k. isSame (placeAt st k .state) x) (bucketOf (slots st) x) count at
 
 -- no place below count holds an equal state
 abbrev pub Unseen : List ℤ → ℕ → State → Type 0
@@ -113,18 +125,18 @@ Located st count x Nothing = Unseen st count x
 
 -- ---- clearing
 
--- the place k is zero, but for its head, and so is the head h
+-- the place k is zero, and so is the head h
 pub record Zeroed (old new : List ℤ) (k h : ℕ) : Type 0 where
   pub long : length new ≡ length old
-  pub place : (f : ℕ) → f < 8 → (f ≡ 6 → ⊥) → getD new (8 * k + f) (pos 0) ≡ pos 0
-  pub head : getD new (8 * h + 6) (pos 0) ≡ pos 0
-  pub places : (j f : ℕ) → (j ≡ k → ⊥) → f < 8 → (f ≡ 6 → ⊥) → getD new (8 * j + f) (pos 0) ≡ getD old (8 * j + f) (pos 0)
-  pub heads : (g : ℕ) → (g ≡ h → ⊥) → getD new (8 * g + 6) (pos 0) ≡ getD old (8 * g + 6) (pos 0)
+  pub place : (f : ℕ) → f < 7 → numberAt new k f ≡ pos 0
+  pub head : getD new h (pos 0) ≡ pos 0
+  pub places : (j f : ℕ) → (j ≡ k → ⊥) → f < 7 → numberAt new j f ≡ numberAt old j f
+  pub heads : (g : ℕ) → g < slots old → (g ≡ h → ⊥) → getD new g (pos 0) ≡ getD old g (pos 0)
 
--- what clear_used keeps: the places below k are zero, and the heads of their buckets
+-- what clear_places keeps: the places below k are zero, and the heads of their buckets
 pub record Clearing (old new : List ℤ) (k : ℕ) : Type 0 where
   pub long : length new ≡ length old
-  pub done : (j f : ℕ) → j < k → f < 8 → (f ≡ 6 → ⊥) → getD new (8 * j + f) (pos 0) ≡ pos 0
-  pub ahead : (j f : ℕ) → k ≤ j → f < 8 → (f ≡ 6 → ⊥) → getD new (8 * j + f) (pos 0) ≡ getD old (8 * j + f) (pos 0)
-  pub cleared : (j : ℕ) → j < k → getD new (8 * bucketOf (length old / 8) (placeAt old j .state) + 6) (pos 0) ≡ pos 0
-  pub heads : (h : ℕ) → (getD new (8 * h + 6) (pos 0) ≡ pos 0) ⊎ (getD new (8 * h + 6) (pos 0) ≡ getD old (8 * h + 6) (pos 0))
+  pub done : (j f : ℕ) → j < k → f < 7 → numberAt new j f ≡ pos 0
+  pub ahead : (j f : ℕ) → k ≤ j → f < 7 → numberAt new j f ≡ numberAt old j f
+  pub cleared : (j : ℕ) → j < k → getD new (bucketOf (slots old) (placeAt old j .state)) (pos 0) ≡ pos 0
+  pub heads : (h : ℕ) → h < slots old → (getD new h (pos 0) ≡ pos 0) ⊎ (getD new h (pos 0) ≡ getD old h (pos 0))

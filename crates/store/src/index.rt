@@ -54,7 +54,7 @@ fn head_at(store: &[i64], h: usize) -> usize
     requires { ⌜ 8 * h + 8 ≤ length (now store) ⌝ }
     ensures { λ r. ⌜ r ≡ headAt (now (store .entry)) h ⌝ }
 {
-    numbers::nat_at(store, 8 * h + 6)
+    numbers::nat_at(store, h)
 }
 
 // The link of the state at the place k.
@@ -62,7 +62,8 @@ fn link_at(store: &[i64], k: usize) -> usize
     requires { ⌜ 8 * k + 8 ≤ length (now store) ⌝ }
     ensures { λ r. ⌜ r ≡ linkAt (now (store .entry)) k ⌝ }
 {
-    numbers::nat_at(store, 8 * k + 7)
+    let o = store.len() / 8 + 7 * k;
+    numbers::nat_at(store, o + 3)
 }
 
 // The place below count that holds a state equal to x, if there is one. It looks at the states of x's bucket only.
@@ -86,9 +87,9 @@ fn link_place(store: &mut [i64], k: usize, h: usize)
     requires { ⌜ (8 * k + 8 ≤ length (now store)) × (8 * h + 8 ≤ length (now store)) ⌝ }
     ensures { λ _. ⌜ Relinked (now (store .entry)) (now (store .exit)) k h ⌝ }
 {
-    let p = 8 * h + 6;
-    store[8 * k + 7] = store[p];
-    store[p] = numbers::int(k + 1);
+    let o = store.len() / 8 + 7 * k;
+    store[o + 3] = store[h];
+    store[h] = numbers::int(k + 1);
 }
 
 // One state more, at the place count. No place below count may hold an equal one, or find_equal will find one of the two.

@@ -1,7 +1,9 @@
 // The decoder's store: a lent `&mut [i64]`, eight numbers to a place, in the order in which the states are entered.
-//   number 0: word1 * 65,536 + word2     1: covered     2: r * 64 + size     3: score     4: the parent's place
-//   5: the number of its step   6: the head of the bucket with this place's number     7: the link of this place's state
-// A head or a link is 1 + a place, or 0 for none.
+// With n places, the heads of the n buckets stand first, at 0 to n - 1, close together since each look-up begins at one; then the
+// places, seven numbers to each, place k from n + 7 * k on:
+//   number 0: word1 * 65,536 + word2     1: covered     2: r * 64 + size     3: the link of this place's state     4: score
+//   5: the parent's place     6: the number of its step
+// What is left behind the last place, less than eight numbers, is zero. A head or a link is 1 + a place, or 0 for none.
 use meaning::State;
 
 pub mod index;

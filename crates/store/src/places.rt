@@ -1,4 +1,4 @@
-// Places of the store: numbers 0 to 5 of each.
+// Places of the store: what each holds, all but its link.
 use crate::Place;
 use crate::numbers;
 use meaning::State;
@@ -12,13 +12,13 @@ pub fn place_at(store: &[i64], k: usize) -> Place
     requires { ⌜ 8 * k + 8 ≤ length (now store) ⌝ }
     ensures { λ x. ⌜ x ≡ placeAt (now (store .entry)) k ⌝ }
 {
-    let o = 8 * k;
+    let o = store.len() / 8 + 7 * k;
     let words = numbers::nat_at(store, o);
     let covered = numbers::nat_at(store, o + 1);
     let rest = numbers::nat_at(store, o + 2);
-    let score = store[o + 3];
-    let parent = numbers::nat_at(store, o + 4);
-    let step = numbers::nat_at(store, o + 5);
+    let score = store[o + 4];
+    let parent = numbers::nat_at(store, o + 5);
+    let step = numbers::nat_at(store, o + 6);
     Place {
         state: State {
             word1: (words / 65536 % 65536) as u16,
@@ -47,15 +47,15 @@ pub fn put_place(store: &mut [i64], k: usize, x: Place)
     ensures { λ _. ⌜ Put (now (store .entry)) (now (store .exit)) k x ⌝ }
     ensures { λ _. ⌜ Spare (now (store .entry)) (now (store .exit)) k ⌝ }
 {
-    let o = 8 * k;
+    let o = store.len() / 8 + 7 * k;
     let s = x.state;
     store[o] = numbers::int(words_of(s));
     store[o + 1] = numbers::int(s.covered as usize);
     store[o + 2] = numbers::int(s.r as usize * 64 + x.size);
     let score = s.score;
-    store[o + 3] = score;
-    store[o + 4] = numbers::int(x.parent);
-    store[o + 5] = numbers::int(x.step);
+    store[o + 4] = score;
+    store[o + 5] = numbers::int(x.parent);
+    store[o + 6] = numbers::int(x.step);
 }
 
 // The place k holds a state that is equal to x.

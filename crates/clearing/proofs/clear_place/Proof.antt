@@ -9,6 +9,9 @@ use Rattle.clearing.proofs.clear_place.Tie as tie
 mul-o : tie.Need-mul-o
 mul-o c = search needs
 
+add-o : tie.Need-add-o
+add-o c = search needs
+
 mul-store : tie.Need-mul-store
 mul-store c = search needs
 
@@ -72,12 +75,6 @@ slice-set-of-store-7 c = simp length-set (omega arith)
 mul-store-8 : tie.Need-mul-store-8
 mul-store-8 c = search needs
 
-add-store-7 : tie.Need-add-store-7
-add-store-7 c = search needs
-
-mul-store-9 : tie.Need-mul-store-9
-mul-store-9 c = search needs
-
 slice-set-of-store-8 : tie.Need-slice-set-of-store-8
 slice-set-of-store-8 c = simp length-set (omega arith)
 
@@ -92,6 +89,7 @@ clear-place-spec =
     tie.close
     (tie.spec
     mul-o
+    add-o
     mul-store
     slice-set-of-store
     add-store
@@ -113,8 +111,6 @@ clear-place-spec =
     mul-store-7
     slice-set-of-store-7
     mul-store-8
-    add-store-7
-    mul-store-9
     slice-set-of-store-8
     same-length
     returns)

@@ -31,7 +31,7 @@ loop-less : tie.Need-loop-less Inv-loop μ-loop
 loop-less c = search needs
 
 loop-again : tie.Need-loop-again Inv-loop μ-loop
-loop-again c = (omega arith, clear-goes _ _ _ _ _ (c .before .before .before .before .before .before .loop .inv .1) (c .before .before .before .bucket-at .ensures .0) (c .before .clear-place .ensures))
+loop-again c = (omega arith, clear-goes _ _ _ _ _ (c .before .before .before .before .before .before .loop .inv .1) (c .before .before .before .bucket-at .ensures .0) (c .before .before .before .bucket-at .ensures .1) (c .before .clear-place .ensures))
 
 same-length : tie.Need-same-length Inv-loop μ-loop
 same-length c = c .before .loop .inv .1 .long

@@ -1,4 +1,4 @@
--- The bucket is a remainder by 8,192, so it is below that.
+-- The bucket is a remainder by 16,384, so it is below that.
 use mathlib.Core.Path.{refl}
 use native.Mathlib.Omega.{arith}
 use borrow.Author.Needs.{needs}

@@ -38,8 +38,14 @@ returns c =
     let e = walk-hit (l .inv) (c .before .before .loop-test .taken) (sym (c .before .is-key .ensures) ∙ c .if1 .taken) in
     omega (arith, c .before .before .loop-test .taken, e)
 
+mul-number-at : tie.Need-mul-number-at Inv-loop μ-loop
+mul-number-at c = search needs
+
 add-number-at : tie.Need-add-number-at Inv-loop μ-loop
 add-number-at c = search needs
+
+add-number-at-2 : tie.Need-add-number-at-2 Inv-loop μ-loop
+add-number-at-2 c = search needs
 
 number-at-requires-2 : tie.Need-number-at-requires-2 Inv-loop μ-loop
 number-at-requires-2 c κs = search needs
@@ -71,7 +77,9 @@ find-spec =
     sub-k
     is-key-requires
     returns
+    mul-number-at
     add-number-at
+    add-number-at-2
     number-at-requires-2
     loop-less
     loop-again

@@ -3,9 +3,9 @@ use native.Mathlib.Omega.{arith}
 use Prim.Native.Nat.{ℕ, _≤_, _-_, _+_}
 use mathlib.Core.List.{List}
 use mathlib.Core.Path.{_≡_, refl, sym, ap, _∙_}
-use Rattle.ngrams.specs.Parts.{recordsFrom, KeptFrom}
+use Rattle.ngrams.specs.Parts.{KeptRecords}
 use Rattle.ngrams.specs.Grams.{keyAt, firsts, earlierAlike, repeatRefusal, withRepeat, Room, Indexed}
-use Rattle.ngrams.proofs.Parts.{kept-all, kept-then}
+use Rattle.ngrams.proofs.Parts.{kept-records, records-all, records-then}
 use Rattle.ngrams.proofs.Index.{kept-room, room-less, index-none}
 use Rattle.ngrams.proofs.Differ.{repeat-more, kept-repeats}
 use Rattle.ngrams.proofs.index_all.Statement.{statement}
@@ -16,7 +16,7 @@ record Built (index₀ index : List ℕ) (count found i : ℕ) : Type 0 where
   indexed : Indexed index i
   room : Room index count
   within : i ≤ count
-  kept : KeptFrom recordsFrom index₀ index
+  kept : KeptRecords index₀ index
   answer : found ≡ repeatRefusal index i
 
 abbrev Inv-loop : tie.InvT-loop
@@ -35,9 +35,9 @@ loop-holds c =
     let k = c .before .before .clear .ensures in
     record {
       indexed = index-none (s .pre) k;
-      room = kept-room (kept-then (omega arith) (k .kept) (kept-all recordsFrom (c .before .before .clear .last .0))) (s .pre);
+      room = kept-room (kept-records (k .kept)) (s .pre);
       within = omega arith;
-      kept = kept-all recordsFrom (c .before .before .clear .last .0);
+      kept = records-all (c .before .before .clear .last .0);
       answer = refl;
     }
 
@@ -61,7 +61,7 @@ loop-again c =
       indexed = k .indexed;
       room = kept-room (k .kept) (l .inv .room);
       within = omega (arith, c .before .before .before .before .before .before .loop-test .taken);
-      kept = kept-then (omega arith) (l .inv .kept) (k .kept);
+      kept = records-then (l .inv .kept) (k .kept);
       answer =
           c .before .before .before .before .with-repeat .ensures
           ∙ ap (λ (n : ℕ). withRepeat n (earlierAlike (l .index) (l .i)) (keyAt (l .index) (l .i) .order)) (l .inv .answer)
@@ -77,7 +77,7 @@ returns c =
     let s = c .before .before .before .before .before .before .before in
     let l = c .before .loop in
     let e : l .i ≡ s .args .count = omega (arith, l .inv .within, c .loop-test .left) in
-    let same = kept-then (omega arith) (c .before .before .before .before .clear .ensures .kept) (l .inv .kept) in
+    let same = records-then (kept-records (c .before .before .before .before .clear .ensures .kept)) (l .inv .kept) in
     record {
       answer = l .inv .answer ∙ ap (repeatRefusal (l .index)) e ∙ kept-repeats same (s .args .count);
       indexed = rw e at (l .inv .indexed);

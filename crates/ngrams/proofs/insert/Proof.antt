@@ -20,23 +20,29 @@ mul-index c = search needs
 slice-read-index : tie.Need-slice-read-index
 slice-read-index c = search needs
 
-add-index : tie.Need-add-index
-add-index c = search needs
-
 mul-index-2 : tie.Need-mul-index-2
 mul-index-2 c = search needs
 
-slice-write-index : tie.Need-slice-write-index
-slice-write-index c = search needs
+add-index : tie.Need-add-index
+add-index c = search needs
 
 add-index-2 : tie.Need-add-index-2
 add-index-2 c = search needs
 
+mul-index-3 : tie.Need-mul-index-3
+mul-index-3 c = search needs
+
+slice-write-index : tie.Need-slice-write-index
+slice-write-index c = search needs
+
+add-index-3 : tie.Need-add-index-3
+add-index-3 c = search needs
+
 cast-index : tie.Need-cast-index
 cast-index c = search needs
 
-mul-index-3 : tie.Need-mul-index-3
-mul-index-3 c = search needs
+mul-index-4 : tie.Need-mul-index-4
+mul-index-4 c = search needs
 
 slice-write-index-2 : tie.Need-slice-write-index-2
 slice-write-index-2 c = simp length-set (omega (arith, c .before .bucket .ensures .1))
@@ -57,12 +63,14 @@ insert-spec =
     bucket-requires
     mul-index
     slice-read-index
-    add-index
     mul-index-2
-    slice-write-index
+    add-index
     add-index-2
-    cast-index
     mul-index-3
+    slice-write-index
+    add-index-3
+    cast-index
+    mul-index-4
     slice-write-index-2
     same-length
     returns)

@@ -1,4 +1,8 @@
--- What is asked before gives the refusal, or the lists that the search needs.
+-- What is asked before gives the refusal, or the lists that the search needs. That a list of so many zeros has this length is said by
+-- `length-replicate`: `search` would compute it, a step for each number.
+use Prim.Native.Nat.{ℕ}
+use mathlib.Core.Path.{sym, _∙_}
+use lib.ListN.{length-replicate}
 use borrow.Author.Needs.{needs}
 use native.Mathlib.Omega.{arith}
 use mir.Facts.{toZ-ofZ}
@@ -11,51 +15,39 @@ use Rattle.decoder.proofs.decode.decode_with.Reads as decode-with-reads
 use Rattle.decoder.proofs.decode.refused.Reads as refused-reads
 use Rattle.opening.proofs.open_and_begin.Reads as open-and-begin-reads
 
--- src/lib.rt:27:9
 slice-aggregate-open-and-begin : tie.Need-slice-aggregate-open-and-begin
-slice-aggregate-open-and-begin c = search needs
+slice-aggregate-open-and-begin c = sym (length-replicate {A = ℕ} _ 0)
 
--- src/lib.rt:24:11
 open-and-begin-requires : tie.Need-open-and-begin-requires
-open-and-begin-requires c κs = search needs
+open-and-begin-requires c κs = omega (arith, slice-aggregate-open-and-begin c)
 
--- src/lib.rt:32:22
 enum-known-setup : tie.Need-enum-known-setup
-enum-known-setup c = search needs
+enum-known-setup c = c .match .keys1
 
--- src/lib.rt:37:17
 slice-aggregate-decode-with : tie.Need-slice-aggregate-decode-with
-slice-aggregate-decode-with c = search needs
+slice-aggregate-decode-with c = sym (c .before .before .before .before .before .open-and-begin .kept .1 .1 .0 ∙ length-replicate {A = ℕ} _ 0)
 
--- src/lib.rt:38:17
 slice-aggregate-decode-with-2 : tie.Need-slice-aggregate-decode-with-2
-slice-aggregate-decode-with-2 c = search needs
+slice-aggregate-decode-with-2 c = sym (length-replicate {A = ℕ} _ 0)
 
--- src/lib.rt:34:13
 decode-with-requires : tie.Need-decode-with-requires
 decode-with-requires c κs = let s = rw (c .before .before .before .before .before .setup .given .1) at (c .before .before .before .before .before .before .before .before .open-and-begin .ensures) in (s, omega arith)
 
--- src/lib.rt:48:24
 enum-known-refusal : tie.Need-enum-known-refusal
-enum-known-refusal c = search needs
+enum-known-refusal c = c .match .keys2
 
--- src/lib.rt:48:36
 refused-requires : tie.Need-refused-requires
 refused-requires c κs = search needs
 
--- src/lib.rt:9:1
 same-length : tie.Need-same-length
 same-length c = search needs
 
--- src/lib.rt:9:1
 same-length-2 : tie.Need-same-length-2
 same-length-2 c = search needs
 
--- src/lib.rt:9:1
 returns : tie.Need-returns
 returns c = rw (toZ-ofZ (c .before .before .before .before .before .before .before .before .before .before .before .before .before .before .before .before .before .fits .width)) at (c .before .before .before .before .decode-with .ensures)
 
--- src/lib.rt:9:1
 returns-2 : tie.Need-returns-2
 returns-2 c = refused-plain _ _ _ _ _ _ _ (rw (c .before .before .refusal .given .1) at (c .before .before .before .before .before .open-and-begin .ensures)) (c .refused .ensures)
 

@@ -47,7 +47,7 @@ fresh-requires : tie.Need-fresh-requires Inv-loop μ-loop
 fresh-requires c κs = tt
 
 loop-holds : tie.Need-loop-holds Inv-loop μ-loop
-loop-holds c = rw (c .fresh .ensures, c .before .before .before .before .before .pre .1) (walk-start (c .before .before .before .before .before .args .text .now) (c .before .before .before .before .before .args .index .now) _ refl)
+loop-holds c = rw (c .fresh .ensures, c .before .before .before .before .before .pre) (walk-start (c .before .before .before .before .before .args .text .now) (c .before .before .before .before .before .args .index .now) _ refl)
 
 slice-aggregate-read-row : tie.Need-slice-aggregate-read-row Inv-loop μ-loop
 slice-aggregate-read-row c = sym (c .before .before .loop .inv .places)
@@ -59,7 +59,7 @@ same-length : tie.Need-same-length Inv-loop μ-loop
 same-length c = c .before .before .before .before .before .before .loop .inv .long
 
 same-length-2 : tie.Need-same-length-2 Inv-loop μ-loop
-same-length-2 c = c .before .before .before .before .before .before .loop .inv .few .each-kind ∙ sym (ap length (c .before .before .before .before .before .before .before .before .before .before .before .before .pre .1))
+same-length-2 c = c .before .before .before .before .before .before .loop .inv .few .each-kind ∙ sym (ap length (c .before .before .before .before .before .before .before .before .before .before .before .before .pre))
 
 returns-2 : tie.Need-returns-2 Inv-loop μ-loop
 returns-2 c = let k = c .before .before .before .read-row in walk-bad (c .before .before .before .before .before .before .loop .inv) (k .result) (k .ensures) (not-true _ (c .if2 .taken))
@@ -68,7 +68,7 @@ same-length-3 : tie.Need-same-length-3 Inv-loop μ-loop
 same-length-3 c = c .before .before .before .before .before .before .before .loop .inv .long
 
 same-length-4 : tie.Need-same-length-4 Inv-loop μ-loop
-same-length-4 c = c .before .before .before .before .before .before .before .loop .inv .few .each-kind ∙ sym (ap length (c .before .before .before .before .before .before .before .before .before .before .before .before .before .pre .1))
+same-length-4 c = c .before .before .before .before .before .before .before .loop .inv .few .each-kind ∙ sym (ap length (c .before .before .before .before .before .before .before .before .before .before .before .before .before .pre))
 
 returns-3 : tie.Need-returns-3 Inv-loop μ-loop
 returns-3 c =
@@ -89,7 +89,7 @@ same-length-5 : tie.Need-same-length-5 Inv-loop μ-loop
 same-length-5 c = c .before .before .before .before .before .before .before .before .before .before .loop .inv .long
 
 same-length-6 : tie.Need-same-length-6 Inv-loop μ-loop
-same-length-6 c = c .before .before .before .before .before .before .before .before .before .before .loop .inv .few .each-kind ∙ sym (ap length (c .before .before .before .before .before .before .before .before .before .before .before .before .before .before .before .before .pre .1))
+same-length-6 c = c .before .before .before .before .before .before .before .before .before .before .loop .inv .few .each-kind ∙ sym (ap length (c .before .before .before .before .before .before .before .before .before .before .before .before .before .before .before .before .pre))
 
 returns-4 : tie.Need-returns-4 Inv-loop μ-loop
 returns-4 c =
@@ -106,8 +106,7 @@ slice-aggregate-note-line c = sym (length-take-le _ _ (omega (arith, c .before .
 note-line-requires : tie.Need-note-line-requires Inv-loop μ-loop
 note-line-requires c κs =
     let w = c .before .before .before .before .before .before .before .before .before .before .before .before .before .loop .inv in
-    let h = w .long in
-    (few-more (w .few) (omega (arith, w .within)), omega arith)
+    few-more (w .few) (omega (arith, w .within))
 
 -- the line is whole, and noted
 whole : (c : tie.Else4 Inv-loop μ-loop) → isWhole InText (here (c .before .before .before .before)) ≡ true
@@ -136,7 +135,7 @@ same-length-7 : tie.Need-same-length-7 Inv-loop μ-loop
 same-length-7 c = c .before .loop .inv .long
 
 same-length-8 : tie.Need-same-length-8 Inv-loop μ-loop
-same-length-8 c = c .before .loop .inv .few .each-kind ∙ sym (ap length (c .before .before .before .before .before .before .before .pre .1))
+same-length-8 c = c .before .loop .inv .few .each-kind ∙ sym (ap length (c .before .before .before .before .before .before .before .pre))
 
 returns-5 : tie.Need-returns-5 Inv-loop μ-loop
 returns-5 c = walk-end (c .before .loop .inv) (c .loop-test .left) (c .before .before .before .if1 .left)

@@ -1,8 +1,10 @@
 -- What is asked before gives the refusal, or the lists that 16 to 19 are asked with; the steps that are read are those of the plain numbers.
+-- That a list of so many zeros has this length is said by `length-replicate`: `search` would compute it, a step for each number.
+use Prim.Native.Nat.{ℕ}
 use borrow.Author.Needs.{needs}
 use mathlib.Core.Path.{_≡_, sym, _∙_}
 use native.Mathlib.Omega.{arith}
-use lib.ListN.{length, length-map}
+use lib.ListN.{length, length-map, length-replicate}
 use Rattle.meaning.specs.Reply.{scoredReply}
 use Rattle.records.specs.Plain.{stepsOf}
 use Rattle.scoring.proofs.Scoring.{scored-last, refused-before}
@@ -10,16 +12,16 @@ use Rattle.scoring.proofs.score_plain.Statement.{statement}
 use Rattle.scoring.proofs.score_plain.Tie as tie
 
 slice-aggregate-open-and-begin : tie.Need-slice-aggregate-open-and-begin
-slice-aggregate-open-and-begin c = search needs
+slice-aggregate-open-and-begin c = sym (length-replicate {A = ℕ} _ 0)
 
 open-and-begin-requires : tie.Need-open-and-begin-requires
-open-and-begin-requires c κs = search needs
+open-and-begin-requires c κs = omega (arith, slice-aggregate-open-and-begin c)
 
 enum-known-t : tie.Need-enum-known-t
-enum-known-t c = search needs
+enum-known-t c = c .match .keys1
 
 slice-aggregate-score-steps : tie.Need-slice-aggregate-score-steps
-slice-aggregate-score-steps c = search needs
+slice-aggregate-score-steps c = sym (c .before .before .before .before .before .open-and-begin .kept .1 .1 .0 ∙ length-replicate {A = ℕ} _ 0)
 
 slice-aggregate-score-steps-2 : tie.Need-slice-aggregate-score-steps-2
 slice-aggregate-score-steps-2 c = search needs
@@ -32,7 +34,7 @@ score-steps-requires c κs =
     (s, omega (arith, long, c .before .before .before .before .before .before .before .before .before .before .pre))
 
 enum-known-refusal : tie.Need-enum-known-refusal
-enum-known-refusal c = search needs
+enum-known-refusal c = c .match .keys2
 
 returns : tie.Need-returns
 returns c =

@@ -8,7 +8,7 @@ use Rattle.book.proofs.grams.note_line.Statement.{statement}
 use Rattle.book.proofs.grams.note_line.Tie as tie
 
 gram-count-requires : tie.Need-gram-count-requires
-gram-count-requires c κs = let f = c .before .before .before .pre .0 in (f .each-kind, omega (arith, f .few-each 3, f .few-each 4, f .few-each 5))
+gram-count-requires c κs = let f = c .before .before .before .pre in (f .each-kind, omega (arith, f .few-each 3, f .few-each 4, f .few-each 5))
 
 put-gram-requires : tie.Need-put-gram-requires
 put-gram-requires c κs = search needs

@@ -20,7 +20,7 @@ fresh-requires : tie.Need-fresh-requires Inv-loop μ-loop
 fresh-requires c κs = tt
 
 loop-holds : tie.Need-loop-holds Inv-loop μ-loop
-loop-holds c = rw (c .fresh .ensures, c .before .before .before .pre .1) (walk-start (c .before .before .before .args .book .now) (c .before .before .before .args .index .now))
+loop-holds c = rw (c .fresh .ensures, c .before .before .before .pre) (walk-start (c .before .before .before .args .book .now) (c .before .before .before .args .index .now))
 
 size-at-requires : tie.Need-size-at-requires Inv-loop μ-loop
 size-at-requires c κs = omega arith
@@ -29,7 +29,7 @@ same-length : tie.Need-same-length Inv-loop μ-loop
 same-length c = c .before .before .before .loop .inv .long
 
 same-length-2 : tie.Need-same-length-2 Inv-loop μ-loop
-same-length-2 c = c .before .before .before .loop .inv .few .each-kind ∙ sym (ap length (c .before .before .before .before .before .before .before .pre .1))
+same-length-2 c = c .before .before .before .loop .inv .few .each-kind ∙ sym (ap length (c .before .before .before .before .before .before .before .pre))
 
 returns : tie.Need-returns Inv-loop μ-loop
 returns c = sym (c .before .before .before .loop .inv .asked) ∙ line-broken (c .before .before .before .before .before .before .before .args .book .now) (c .before .before .before .loop .at) (c .before .before .loop-test .taken) (sym (c .if1 .taken) ∙ c .before .size-at .ensures)
@@ -54,7 +54,7 @@ part-note-line-end : tie.Need-part-note-line-end Inv-loop μ-loop
 part-note-line-end c = omega (arith, here (c .before .before) .inside)
 
 note-line-requires : tie.Need-note-line-requires Inv-loop μ-loop
-note-line-requires c κs = (few-more (c .before .before .before .before .before .before .loop .inv .few) (omega arith), omega arith)
+note-line-requires c κs = few-more (c .before .before .before .before .before .before .loop .inv .few) (omega arith)
 
 add-at : tie.Need-add-at Inv-loop μ-loop
 add-at c = omega (arith, here (c .before .before .before .before .before .before .before .before) .inside)
@@ -72,7 +72,7 @@ same-length-3 : tie.Need-same-length-3 Inv-loop μ-loop
 same-length-3 c = c .before .loop .inv .long
 
 same-length-4 : tie.Need-same-length-4 Inv-loop μ-loop
-same-length-4 c = c .before .loop .inv .few .each-kind ∙ sym (ap length (c .before .before .before .before .before .pre .1))
+same-length-4 c = c .before .loop .inv .few .each-kind ∙ sym (ap length (c .before .before .before .before .before .pre))
 
 returns-2 : tie.Need-returns-2 Inv-loop μ-loop
 returns-2 c = walk-end (c .before .loop .inv) (c .loop-test .left)

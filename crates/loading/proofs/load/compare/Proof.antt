@@ -12,7 +12,7 @@ gram-count-requires : tie.Need-gram-count-requires
 gram-count-requires c κs = (c .before .before .pre .1 .0, omega (arith, few-grams (c .before .before .args .tally .now) (c .before .before .pre .1 .1)))
 
 index-all-requires : tie.Need-index-all-requires
-index-all-requires c κs = record { parts = c .before .before .before .before .pre .0; few = omega (arith, c .before .gram-count .ensures, few-grams (c .before .before .before .before .args .tally .now) (c .before .before .before .before .pre .1 .1)) }
+index-all-requires c κs = record { parts = omega (arith, c .before .gram-count .ensures, c .before .before .before .before .pre .0); few = omega (arith, c .before .gram-count .ensures, few-grams (c .before .before .before .before .args .tally .now) (c .before .before .before .before .pre .1 .1)) }
 
 same-length : tie.Need-same-length
 same-length c = search needs

@@ -1,6 +1,7 @@
 -- The survey of the list is that of its lines, and what they answer is what the list answers.
 use Rattle.meaning.specs.Book.{InList, loadedLines, bookRefusal, bookOf}
-use Rattle.loading.proofs.Answers.{survey-loaded}
+use Rattle.loading.proofs.Answers.{few-grams, survey-loaded}
+use native.Mathlib.Omega.{arith}
 use borrow.Author.Needs.{needs}
 use Rattle.loading.proofs.load.load.Statement.{statement}
 use Rattle.loading.proofs.load.load.Tie as tie
@@ -15,7 +16,7 @@ slice-aggregate-settle : tie.Need-slice-aggregate-settle
 slice-aggregate-settle c = search needs
 
 settle-requires : tie.Need-settle-requires
-settle-requires c κs = search needs
+settle-requires c κs = (λ few. omega (arith, few-grams (c .before .before .before .before .before .survey-loaded .last .1 .1 .0) few, c .before .before .before .before .before .before .before .before .before .pre), search needs)
 
 same-length : tie.Need-same-length
 same-length c = search needs

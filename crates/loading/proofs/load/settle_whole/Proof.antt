@@ -15,7 +15,8 @@ enum-told c = search needs
 compare-requires : tie.Need-compare-requires
 compare-requires c κs =
     let four = sym (c .before .before .before .judge .ensures) ∙ ap refusalOf (c .before .enum-told .given .1) in
-    (c .before .before .before .before .before .before .pre .0, (c .before .before .before .before .before .before .pre .1, judged-few (c .before .before .before .before .before .before .args .s) (c .before .before .before .before .before .before .args .tally .now) four))
+    let few = judged-few (c .before .before .before .before .before .before .args .s) (c .before .before .before .before .before .before .args .tally .now) four in
+    (c .before .before .before .before .before .before .pre .0 few, (c .before .before .before .before .before .before .pre .1, few))
 
 enum-known-refusal : tie.Need-enum-known-refusal
 enum-known-refusal c = search needs

@@ -1,14 +1,8 @@
--- Number 6 of the slot.
+-- Number h of the store.
 use Rattle.store.specs.Store.{headAt}
 use borrow.Author.Needs.{needs}
 use Rattle.store.proofs.index.head_at.Statement.{statement}
 use Rattle.store.proofs.index.head_at.Tie as tie
-
-mul-nat-at : tie.Need-mul-nat-at
-mul-nat-at c = search needs
-
-add-nat-at : tie.Need-add-nat-at
-add-nat-at c = search needs
 
 nat-at-requires : tie.Need-nat-at-requires
 nat-at-requires c κs = search needs
@@ -18,4 +12,4 @@ unfolding headAt
 returns c = c .nat-at .ensures
 
 pub head-at-spec : {M : Type 1} → statement M
-head-at-spec = tie.close (tie.spec mul-nat-at add-nat-at nat-at-requires returns)
+head-at-spec = tie.close (tie.spec nat-at-requires returns)

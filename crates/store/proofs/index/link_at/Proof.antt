@@ -1,11 +1,14 @@
--- Number 7 of the place.
+-- Number 3 of the place.
 use Rattle.store.specs.Store.{linkAt}
 use borrow.Author.Needs.{needs}
 use Rattle.store.proofs.index.link_at.Statement.{statement}
 use Rattle.store.proofs.index.link_at.Tie as tie
 
-mul-nat-at : tie.Need-mul-nat-at
-mul-nat-at c = search needs
+mul-o : tie.Need-mul-o
+mul-o c = search needs
+
+add-o : tie.Need-add-o
+add-o c = search needs
 
 add-nat-at : tie.Need-add-nat-at
 add-nat-at c = search needs
@@ -18,4 +21,4 @@ unfolding linkAt
 returns c = c .nat-at .ensures
 
 pub link-at-spec : {M : Type 1} → statement M
-link-at-spec = tie.close (tie.spec mul-nat-at add-nat-at nat-at-requires returns)
+link-at-spec = tie.close (tie.spec mul-o add-o add-nat-at nat-at-requires returns)

@@ -1,6 +1,5 @@
 -- The link of the place is the bucket's old head, and the head is the place.
 use native.Mathlib.Omega.{arith}
-use Prim.Native.Nat.{_+_, _*_}
 use lib.IntN.{pos}
 use lib.ListN.{getD, length-set}
 use mir.Syntax.{w64}
@@ -10,11 +9,11 @@ use borrow.Author.Needs.{needs}
 use Rattle.store.proofs.index.link_place.Statement.{statement}
 use Rattle.store.proofs.index.link_place.Tie as tie
 
-mul-p : tie.Need-mul-p
-mul-p c = search needs
+mul-o : tie.Need-mul-o
+mul-o c = search needs
 
-add-p : tie.Need-add-p
-add-p c = search needs
+add-o : tie.Need-add-o
+add-o c = search needs
 
 mul-store : tie.Need-mul-store
 mul-store c = search needs
@@ -22,14 +21,11 @@ mul-store c = search needs
 slice-copy-out-store : tie.Need-slice-copy-out-store
 slice-copy-out-store c = search needs
 
-mul-store-2 : tie.Need-mul-store-2
-mul-store-2 c = search needs
-
 add-store : tie.Need-add-store
 add-store c = search needs
 
-mul-store-3 : tie.Need-mul-store-3
-mul-store-3 c = search needs
+mul-store-2 : tie.Need-mul-store-2
+mul-store-2 c = search needs
 
 slice-set-from-store : tie.Need-slice-set-from-store
 slice-set-from-store c = search needs
@@ -40,8 +36,8 @@ add-int c = search needs
 int-requires : tie.Need-int-requires
 int-requires c κs = search needs
 
-mul-t9 : tie.Need-mul-t9
-mul-t9 c = search needs
+mul-t7 : tie.Need-mul-t7
+mul-t7 c = search needs
 
 slice-set-from-store-2 : tie.Need-slice-set-from-store-2
 slice-set-from-store-2 c = simp length-set (omega arith)
@@ -53,23 +49,22 @@ returns : tie.Need-returns
 returns c =
     let s = c .before .before in
     relinked (s .args .store .now) (s .args .k) (s .args .h) _ _ (s .pre .0) (s .pre .1)
-    (back w64 (getD (s .args .store .now) (8 * s .args .h + 6) (pos 0)) (c .before .store .given)) (back-pos w64 _ _ (c .int .ensures) (omega arith))
+    (back w64 (getD (s .args .store .now) (s .args .h) (pos 0)) (c .before .store .given)) (back-pos w64 _ _ (c .int .ensures) (omega arith))
 
 pub link-place-spec : {M : Type 1} → statement M
 link-place-spec =
     tie.close
     (tie.spec
-    mul-p
-    add-p
+    mul-o
+    add-o
     mul-store
     slice-copy-out-store
-    mul-store-2
     add-store
-    mul-store-3
+    mul-store-2
     slice-set-from-store
     add-int
     int-requires
-    mul-t9
+    mul-t7
     slice-set-from-store-2
     same-length
     returns)

@@ -1,16 +1,22 @@
 -- Each field is read off its number, as `placeAt` says it.
-use Prim.Native.Nat.{_+_, _*_, _/_, _%_}
+use mathlib.Core.Path.{_∙_, ap}
+use Prim.Native.Nat.{ℕ, _+_, _/_, _%_}
 use lib.IntN.{pos}
 use lib.ListN.{getD}
 use mir.Syntax.{w64}
 use Rattle.laws.proofs.Integers.{back}
-use Rattle.store.specs.Store.{placeAt}
+use Rattle.laws.specs.Integers.{natOf}
+use Rattle.store.specs.Store.{placeFrom, placeAt}
+use Rattle.store.proofs.Writes.{first-number}
 use borrow.Author.Needs.{needs}
 use Rattle.store.proofs.places.place_at.Statement.{statement}
 use Rattle.store.proofs.places.place_at.Tie as tie
 
 mul-o : tie.Need-mul-o
 mul-o c = search needs
+
+add-o : tie.Need-add-o
+add-o c = search needs
 
 nat-at-requires : tie.Need-nat-at-requires
 nat-at-requires c κs = search needs
@@ -48,8 +54,8 @@ add-nat-at-4 c = search needs
 nat-at-requires-5 : tie.Need-nat-at-requires-5
 nat-at-requires-5 c κs = search needs
 
-cast-t14 : tie.Need-cast-t14
-cast-t14 c = search needs
+cast-t15 : tie.Need-cast-t15
+cast-t15 c = search needs
 
 cast-t16 : tie.Need-cast-t16
 cast-t16 c = search needs
@@ -64,12 +70,14 @@ returns : tie.Need-returns
 unfolding placeAt
 returns c =
     let s = c .before .before .before .before .before .before in
-    let e = back w64 (getD (s .args .store .now) (8 * s .args .k + 3) (pos 0)) (c .before .before .score .given) in
+    let o = placeFrom (s .args .store .now) (s .args .k) in
+    let words = c .before .before .before .before .before .nat-at .ensures ∙ ap (λ (p : ℕ). natOf (getD (s .args .store .now) p (pos 0))) (first-number o) in
+    let e = back w64 (getD (s .args .store .now) (o + 4) (pos 0)) (c .before .before .score .given) in
     λ i. record {
       state =
           record {
-            word1 = c .before .before .before .before .before .nat-at .ensures i / 65536 % 65536;
-            word2 = c .before .before .before .before .before .nat-at .ensures i % 65536;
+            word1 = words i / 65536 % 65536;
+            word2 = words i % 65536;
             covered = c .before .before .before .before .nat-at2 .ensures i % 4294967296;
             r = c .before .before .before .nat-at3 .ensures i / 64 % 65536;
             score = e i;
@@ -84,6 +92,7 @@ place-at-spec =
     tie.close
     (tie.spec
     mul-o
+    add-o
     nat-at-requires
     add-nat-at
     nat-at-requires-2
@@ -96,7 +105,7 @@ place-at-spec =
     nat-at-requires-4
     add-nat-at-4
     nat-at-requires-5
-    cast-t14
+    cast-t15
     cast-t16
     cast-t18
     cast-t21

@@ -1,4 +1,4 @@
--- The six writes are a run at 8 * k; the fields of a state fit their widths, so division finds them again.
+-- The six writes are two runs, with the link between them; the fields of a state fit their widths, so division finds them again.
 use native.Mathlib.Omega.{arith}
 use mathlib.Core.Path.{ap, _∙_}
 use lib.IntN.{pos}
@@ -12,6 +12,9 @@ use Rattle.store.proofs.places.put_place.Tie as tie
 
 mul-o : tie.Need-mul-o
 mul-o c = search needs
+
+add-o : tie.Need-add-o
+add-o c = search needs
 
 words-of-requires : tie.Need-words-of-requires
 words-of-requires c κs = search needs
@@ -85,8 +88,8 @@ slice-set-from-store-4 c = simp length-set (omega arith)
 int-requires-5 : tie.Need-int-requires-5
 int-requires-5 c κs = search needs
 
-add-t9 : tie.Need-add-t9
-add-t9 c = search needs
+add-t8 : tie.Need-add-t8
+add-t8 c = search needs
 
 mul-t14 : tie.Need-mul-t14
 mul-t14 c = search needs
@@ -118,6 +121,7 @@ put-place-spec =
     tie.close
     (tie.spec
     mul-o
+    add-o
     words-of-requires
     int-requires
     mul-store
@@ -142,7 +146,7 @@ put-place-spec =
     mul-store-4
     slice-set-from-store-4
     int-requires-5
-    add-t9
+    add-t8
     mul-t14
     slice-set-from-store-5
     same-length
