@@ -2,7 +2,7 @@
 use Prim.Native.Nat.{ℕ, zero, suc, _*_, _-_, _≤_, _<_}
 use native.Mathlib.Omega.{arith}
 use mathlib.Core.Path.{_≡_, refl, sym, ap, _∙_}
-use mathlib.Core.Bool.{true, false}
+use mathlib.Core.Bool.{true, false, cond}
 use mathlib.Core.List.{List, [], _∷_, dropLast, List·Memᴰ}
 use lib.Dec.{eqb}
 use lib.IntN.{ℤ, pos, _+ℤ_}
@@ -10,20 +10,22 @@ use lib.ListN.{length, getD, drop, length-drop}
 use Rattle.laws.specs.Index.{latest}
 use Rattle.laws.specs.Lists.{eqList}
 use Rattle.laws.proofs.Index.{latest-at, latest-le, latest-lt, latest-none}
-use Rattle.laws.proofs.Tests.{clash, is-false}
+use Rattle.laws.proofs.Tests.{by-test, clash, is-false}
 use Rattle.laws.specs.Integers.{Within}
 use Rattle.laws.proofs.Bounds.{within-+, within-mono}
 use Rattle.laws.proofs.Linear.{signed, sum}
 use Rattle.meaning.specs.Bounds.{scoreMost}
 use Rattle.meaning.proofs.Bounds.{score-or, weight-within, word-within}
 use Rattle.meaning.specs.Book.{Gram}
-use Rattle.meaning.specs.Derivation.{listed, scoreOr, weight, wordScore, pairScore}
+use Rattle.meaning.specs.Derivation.{listed, scoreOr, weight, wordScore, pairScore, isListed, supplier}
+use Rattle.meaning.specs.declared.Supplier.the-variants.{Triple, Unseen}
+use Rattle.meaning.proofs.Judging.{listed-else, listed-same}
 use Rattle.ngrams.specs.declared.Key.{Key}
 use Rattle.ngrams.specs.Grams.{keyAt, scoreAt, wordsOf, keyOf, gramAt, gramsIn, sameKey, holds, Listing}
 use Rattle.ngrams.proofs.Keys.{same-is, is-same, same-words, words-few}
 use Rattle.ngrams.proofs.Differ.{firsts-length, firsts-at, is-different}
 use Rattle.language.specs.declared.Score.the-variants.{Is, Unlisted}
-use Rattle.language.specs.Language.{found, latestScore, latestWeight, unlistedScore, Shortens}
+use Rattle.language.specs.Language.{found, latestScore, latestWeight, unlistedScore, supplierBy, unlistedSupplier, Shortens}
 
 -- ---- the result of a search
 
@@ -123,6 +125,26 @@ module _ {index : List ℕ} {n shorter : ℕ} (x : Listing index n shorter) wher
           no : Unlisted ≡ Is (scoreAt index k) → ⊥
           no q = let z : _≡_ {A = ℕ} 0 1 = cc in omega arith
 
+  -- what is found is listed: whatever stands for what is not, the score is the same ..
+  pub is-listed : (words : List ℕ) → length words ≤ 3 → (s : ℤ) → Is s ≡ latestScore index n (keyOf words) → isListed (gramsIn index n) words ≡ true
+  is-listed words few s e =
+      by-test (isListed (gramsIn index n) words) (λ t. t)
+      (λ f. absurd (zero-one (sym (at (pos 0) f) ∙ at (pos 1) f)))
+    where
+      zero-one : pos 0 ≡ pos 1 → ⊥
+      zero-one q = let z : _≡_ {A = ℕ} 0 1 = cc in omega arith
+
+      at : (other : ℤ) → isListed (gramsIn index n) words ≡ false → s ≡ other
+      at other f = score-listed words few other s e ∙ listed-else (λ g. g .s) words other (gramsIn index n) f
+
+  -- .. and what is not found is not
+  pub not-listed : (words : List ℕ) → length words ≤ 3 → Unlisted ≡ latestScore index n (keyOf words) → isListed (gramsIn index n) words ≡ false
+  not-listed words few e =
+      is-false (λ t. zero-one (other-listed words few (pos 0) e ∙ listed-same (λ g. g .s) words (pos 0) (pos 1) (gramsIn index n) t ∙ sym (other-listed words few (pos 1) e)))
+    where
+      zero-one : pos 0 ≡ pos 1 → ⊥
+      zero-one q = let z : _≡_ {A = ℕ} 0 1 = cc in omega arith
+
   -- ---- only triples are listed
 
   module _ (only : shorter ≡ 0) where
@@ -142,6 +164,17 @@ module _ {index : List ℕ} {n shorter : ℕ} (x : Listing index n shorter) wher
     backs-to-u u v w y =
         rw (unlisted (λ g. g .k) (pos 0) (v ∷ w ∷ []) (omega arith), unlisted (λ g. g .s) (weight (gramsIn index n) (w ∷ []) +ℤ scoreOr (gramsIn index n) u (y ∷ [])) (w ∷ y ∷ []) (omega arith), unlisted (λ g. g .k) (pos 0) (w ∷ []) (omega arith), unlisted (λ g. g .s) u (y ∷ []) (omega arith))
         (omega (arith, signed, sum (pos 0) u, sum (pos 0) (pos 0 +ℤ u)))
+
+    -- neither the pair nor the word is listed
+    none-shorter : (words : List ℕ) → length words ≤ 2 → isListed (gramsIn index n) words ≡ false
+    unfolding keyOf holds
+    none-shorter words few =
+        is-false (λ t. let z : pos 0 ≡ pos 1 = sym (unlisted (λ g. g .s) (pos 0) words few) ∙ listed-same (λ g. g .s) words (pos 0) (pos 1) (gramsIn index n) t ∙ unlisted (λ g. g .s) (pos 1) words few in
+        let q : _≡_ {A = ℕ} 0 1 = cc in omega arith)
+
+    pub backs-to-unseen : (v w y : ℕ) → Unseen ≡ unlistedSupplier (gramsIn index n) (v ∷ w ∷ y ∷ [])
+    unfolding unlistedSupplier
+    backs-to-unseen v w y = rw (none-shorter (w ∷ y ∷ []) (omega arith), none-shorter (y ∷ []) (omega arith))
 
 -- ---- shorter keys
 
@@ -217,6 +250,25 @@ module _ (u : ℤ) (grams : List Gram) where
   pub unlisted-triple : (v w y : ℕ) → unlistedScore u grams (v ∷ w ∷ y ∷ []) ≡ weight grams (v ∷ w ∷ []) +ℤ pairScore u grams w y
   unfolding unlistedScore
   unlisted-triple v w y = refl
+
+  -- who supplies them
+  pub supplier-word : (ws : List ℕ) → length ws ≤ 1 → unlistedSupplier grams ws ≡ Unseen
+  unfolding unlistedSupplier
+  supplier-word [] l = refl
+  supplier-word (y ∷ []) l = refl
+  supplier-word (w ∷ y ∷ ws) l = absurd (omega arith)
+
+  pub supplier-more : (ws : List ℕ) → 2 ≤ length ws → length ws ≤ 3 → cond (isListed grams (drop 1 ws)) (supplierBy (length (drop 1 ws))) (unlistedSupplier grams (drop 1 ws)) ≡ unlistedSupplier grams ws
+  unfolding unlistedSupplier
+  supplier-more [] a b = absurd (omega arith)
+  supplier-more (y ∷ []) a b = absurd (omega arith)
+  supplier-more (w ∷ y ∷ []) a b = refl
+  supplier-more (v ∷ w ∷ y ∷ []) a b = refl
+  supplier-more (p ∷ q ∷ r ∷ s ∷ ws) a b = absurd (omega arith)
+
+  pub supplier-triple : (v w y : ℕ) → supplier grams v w y ≡ cond (isListed grams (v ∷ w ∷ y ∷ [])) Triple (unlistedSupplier grams (v ∷ w ∷ y ∷ []))
+  unfolding supplier unlistedSupplier
+  supplier-triple v w y = refl
 
   module _ (unseen-within : Within scoreMost u) (gram-within : (g : Gram) → List·Memᴰ g grams → Within scoreMost (g .s) × Within scoreMost (g .k)) where
     -- what is added to a weight

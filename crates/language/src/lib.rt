@@ -1,11 +1,13 @@
-// The score of a triple in the language model, backed off to shorter histories: the triple's own, else by its last two words, else by the last, else u.
+// The score of a triple in the language model, backed off to shorter histories: the triple's own, else by its last two words, else by the last, else u;
+// and which of them supplied it.
+use meaning::Supplier;
 use ngrams::Key;
 ghost use mathlib.Core.Path.{_≡_};
 ghost use mathlib.Core.List.{[], _∷_, dropLast};
 ghost use lib.ListN.{drop};
-ghost use Rattle.meaning.specs.Derivation.{backedOff};
+ghost use Rattle.meaning.specs.Derivation.{backedOff, supplier};
 ghost use Rattle.ngrams.specs.Grams.{wordsOf, keyOf, gramsIn, Indexed};
-ghost use Rattle.language.specs.Language.{latestScore, latestWeight, unlistedScore, Shortens, IsModel};
+ghost use Rattle.language.specs.Language.{latestScore, latestWeight, unlistedScore, supplierBy, unlistedSupplier, Shortens, IsModel};
 
 // What the language model is beside its records: how many there are, how many of them are pairs and words, and the score u of an unseen word.
 pub struct LanguageModel {
@@ -14,7 +16,13 @@ pub struct LanguageModel {
     pub unseen: i64,
 }
 
-// What a lookup answers: the score of the n-gram, or that it is not listed.
+// What the lookup of a triple answers: the final score, and which of triple, pair, word or u supplied it.
+pub struct Judged {
+    pub score: i64,
+    pub by: Supplier,
+}
+
+// What the lookup of one n-gram answers: its score, or that it is not listed.
 enum Score {
     Is(i64),
     Unlisted,
@@ -93,33 +101,62 @@ fn weight_of(index: &[u16], count: usize, key: Key) -> i64
     ngrams::weight_at(index, at - 1)
 }
 
+// Which n-gram has so many words.
+fn supplier_by(order: usize) -> Supplier
+    ensures { λ r. ⌜ r ≡ supplierBy order ⌝ }
+{
+    if order == 3 {
+        return Supplier::Triple;
+    }
+    if order == 2 {
+        return Supplier::Pair;
+    }
+    Supplier::Word
+}
+
 // ---- the history grows shorter. Document 01's form: a lookup is taken apart by `let .. else`, and the missing case goes on
 
-// The score of an n-gram that is not listed: the weight of its history and the score of the words without the first, which go on to a shorter history
-// where they are not listed; a word scores u.
-fn back_off(index: &[u16], m: LanguageModel, key: Key) -> i64
+// An n-gram that is not listed scores the weight of its history and the score of the words without the first, which go on to a shorter history
+// where they are not listed; a word scores u. A weight supplies nothing: who supplied the score of the shorter words supplied this.
+fn back_off(index: &[u16], m: LanguageModel, key: Key) -> Judged
     requires { ⌜ IsModel (now index) m ⌝ }
     requires { ⌜ key ≡ keyOf (wordsOf key) ⌝ }
-    ensures { λ r. ⌜ r ≡ unlistedScore (m .unseen) (gramsIn (now (index .entry)) (m .count)) (wordsOf key) ⌝ }
+    ensures { λ r. ⌜ r .score ≡ unlistedScore (m .unseen) (gramsIn (now (index .entry)) (m .count)) (wordsOf key) ⌝ }
+    ensures { λ r. ⌜ r .by ≡ unlistedSupplier (gramsIn (now (index .entry)) (m .count)) (wordsOf key) ⌝ }
 {
     if key.order <= 1 {
-        return m.unseen;
+        return Judged {
+            score: m.unseen,
+            by: Supplier::Unseen,
+        };
     }
     let rest = rest_of(key);
     let weight = weight_of(index, m.count, history_of(key));
     let Score::Is(s) = lookup(index, m.count, rest) else {
-        return weight + back_off(index, m, rest);
+        let shorter = back_off(index, m, rest);
+        let by = shorter.by;
+        return Judged {
+            score: weight + shorter.score,
+            by,
+        };
     };
-    weight + s
+    Judged {
+        score: weight + s,
+        by: supplier_by(rest.order),
+    }
 }
 
-// The score of the triple v, w, y where it is not listed: u where only triples are. (The model is copied here, for the call alone, so that a triple that is listed pays nothing for it.)
-fn unlisted(index: &[u16], m: LanguageModel, v: usize, w: usize, y: usize) -> i64
+// The triple v, w, y where it is not listed: u where only triples are. (The model is copied here, for the call alone, so that a triple that is listed pays nothing for it.)
+fn unlisted(index: &[u16], m: LanguageModel, v: usize, w: usize, y: usize) -> Judged
     requires { ⌜ IsModel (now index) m ⌝ }
-    ensures { λ r. ⌜ r ≡ unlistedScore (m .unseen) (gramsIn (now (index .entry)) (m .count)) (v ∷ w ∷ y ∷ []) ⌝ }
+    ensures { λ r. ⌜ r .score ≡ unlistedScore (m .unseen) (gramsIn (now (index .entry)) (m .count)) (v ∷ w ∷ y ∷ []) ⌝ }
+    ensures { λ r. ⌜ r .by ≡ unlistedSupplier (gramsIn (now (index .entry)) (m .count)) (v ∷ w ∷ y ∷ []) ⌝ }
 {
     if m.shorter == 0 {
-        return m.unseen;
+        return Judged {
+            score: m.unseen,
+            by: Supplier::Unseen,
+        };
     }
     let model = LanguageModel {
         count: m.count,
@@ -129,13 +166,17 @@ fn unlisted(index: &[u16], m: LanguageModel, v: usize, w: usize, y: usize) -> i6
     back_off(index, model, triple_key(v, w, y))
 }
 
-// The score of the triple v, w, y.
-pub fn triple_score(index: &[u16], m: LanguageModel, v: usize, w: usize, y: usize) -> i64
+// The lookup of the triple v, w, y: its score, and who supplied it.
+pub fn judge(index: &[u16], m: LanguageModel, v: usize, w: usize, y: usize) -> Judged
     requires { ⌜ IsModel (now index) m ⌝ }
-    ensures { λ r. ⌜ r ≡ backedOff (m .unseen) (gramsIn (now (index .entry)) (m .count)) v w y ⌝ }
+    ensures { λ r. ⌜ r .score ≡ backedOff (m .unseen) (gramsIn (now (index .entry)) (m .count)) v w y ⌝ }
+    ensures { λ r. ⌜ r .by ≡ supplier (gramsIn (now (index .entry)) (m .count)) v w y ⌝ }
 {
     let Score::Is(s) = lookup(index, m.count, triple_key(v, w, y)) else {
         return unlisted(index, m, v, w, y);
     };
-    s
+    Judged {
+        score: s,
+        by: Supplier::Triple,
+    }
 }

@@ -15,6 +15,7 @@ pub mod Sizes
 pub mod Loaded
 pub mod Bounds
 pub mod Instance
+pub mod Judging
 pub mod Answers
 pub mod Widths
 pub mod Demands

@@ -7,12 +7,14 @@ use lib.Dec.{eqb, leb, ltb}
 use lib.IntN.{ℤ, pos, _+ℤ_, _*ℤ_}
 use lib.ListN.{length, getD}
 use lib.Seq.{slice}
-use Rattle.laws.specs.Lists.{all, count, eqList, concat, oneTo, sumℤ}
+use Rattle.laws.specs.Lists.{all, any, count, eqList, concat, oneTo, sumℤ}
 use Rattle.search_theory.specs.Orders.{before}
 use Rattle.meaning.specs.Questions.{within}
 use Rattle.meaning.specs.Book.{Book, Entry, Gram}
 use Rattle.meaning.specs.Direction.{wordCount}
 use Rattle.meaning.specs.declared.Step.{Step}
+use Rattle.meaning.specs.declared.Supplier.{Supplier}
+use Rattle.meaning.specs.declared.Supplier.the-variants.{Triple, Pair, Word, Unseen}
 
 -- ════ the language model
 
@@ -50,6 +52,19 @@ tripleScore book v w y = backedOff (book .unseen) (book .grams) v w y
 unfoldable pub wordsScore : Book → ℕ → ℕ → List ℕ → ℤ
 wordsScore book v w [] = pos 0
 wordsScore book v w (y ∷ ys) = tripleScore book v w y +ℤ wordsScore book w y ys
+
+-- ════ how each word was judged: ticket 3
+
+-- an n-gram of these words is listed
+abbrev pub isListed : List Gram → List ℕ → Bool
+isListed grams words = any (λ g. eqList eqb (g .words) words) grams
+
+-- "whether triple, pair, word or u supplied the final score": the first of them that is listed. A weight that is added on the way supplies nothing
+unfoldable pub supplier : List Gram → ℕ → ℕ → ℕ → Supplier
+supplier grams v w y =
+    cond (isListed grams (v ∷ w ∷ y ∷ [])) Triple
+    (cond (isListed grams (w ∷ y ∷ [])) Pair
+    (cond (isListed grams (y ∷ [])) Word Unseen))
 
 -- ════ steps
 

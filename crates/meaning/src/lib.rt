@@ -102,6 +102,14 @@ pub fn number_of(refusal: Refusal) -> usize
     }
 }
 
+// Which of the triple that a target word ends, the pair, the word alone or u supplied its score.
+pub enum Supplier {
+    Triple,
+    Pair,
+    Word,
+    Unseen,
+}
+
 // Reading a book or a direction: how many numbers were written.
 pub enum Read {
     Numbers(usize),
