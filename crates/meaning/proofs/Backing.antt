@@ -9,7 +9,7 @@ use lib.IntN.{ℤ, pos}
 use Rattle.laws.specs.Lists.{all}
 use Rattle.meaning.specs.Book.{loadedOf}
 use Rattle.meaning.proofs.Computing.{computing}
-use Rattle.meaning.proofs.Drawers.{bytes, minus, off, step, decoding, scoring, scores, scoresStates, scoresSteps, Row, row, agrees}
+use Rattle.meaning.proofs.Drawers.{bytes, minus, off, step, decoding, scoring, scores, scoresStates, scoresSteps, scoresBy, Row, row, agrees}
 
 -- u is −500, no jump but 0 is allowed, and the phrases 11 to 101, 12 to 102 and 13 to 103 add nothing
 abbrev pub phrases : List ℕ
@@ -132,3 +132,34 @@ decoded =
 pub decoded-agree : all agrees decoded ≡ true
 unfolding computing decoded bytes
 decoded-agree = refl
+
+-- ════ ticket 3: who supplied the scores, in the order triples, pairs, words, u
+
+-- the first two words end listed triples
+abbrev pub third : List ℕ → ℤ → ℕ → ℕ → ℕ → ℕ → Row
+third lines z triples pairs words unseen =
+    row "" (scoring (with lines) three (step 1 1 1 ∷ step 2 2 2 ∷ step 3 3 3 ∷ [])) (scoresBy z triples pairs words unseen)
+
+-- the word 101 after two start symbols, and a direction of four words, by decoding
+abbrev pub first : List ℕ → ℤ → ℕ → ℕ → ℕ → ℕ → Row
+first lines z triples pairs words unseen = row "" (decoding (loadedOf (phrases ++ lines)) (11 ∷ []) off 2) (scoresBy z triples pairs words unseen)
+
+unfoldable pub supplies : List Row
+supplies =
+    third (T123 ++ D12 ++ D23 ++ U2 ++ U3) (minus 13) 3 0 0 0
+    ∷ third (D12 ++ D23 ++ U2 ++ U3) (minus 20) 2 1 0 0
+    -- the weights of 101, 102 and of 102 are added, and supply nothing
+    ∷ third (D12 ++ U2 ++ U3) (minus 35) 2 0 1 0
+    ∷ third (D12 ++ U2) (minus 495) 2 0 0 1
+    -- each alone; word 0's line and its weight are no supplier
+    ∷ first (bytes "T,0,0,101,-1\n") (minus 1) 1 0 0 0
+    ∷ first (bytes "D,0,101,-20,7\n") (minus 20) 0 1 0 0
+    ∷ first (bytes "U,0,-70,4\n" ++ bytes "U,101,-40,9\n") (minus 36) 0 0 1 0
+    ∷ first (bytes "U,0,-70,4\n") (minus 496) 0 0 0 1
+    -- −1 by the triple, −8 by the pair, 3 − 40 by the word, 9 − 500 by u: a pair whose first word is of the step before
+    ∷ row "" (decoding (loadedOf (phrases ++ bytes "T,0,0,101,-1\n" ++ D12 ++ U3)) (11 ∷ 12 ∷ 13 ∷ 11 ∷ []) off 5) (scoresBy (minus 537) 1 1 1 1)
+    ∷ []
+
+pub supplies-agree : all agrees supplies ≡ true
+unfolding computing supplies bytes
+supplies-agree = refl

@@ -4,7 +4,7 @@ use Rattle.search_theory.specs.Search.{highest, first, extend, add, addAll, set
 use Rattle.meaning.specs.Numerals.{split, isEnded, linesOf, isPositive, isNatural, isNumber, valueOf}
 use Rattle.meaning.specs.Book.{kindOfByte, kindOfLetter, isTextLine, isBookText, textLines, sizeOf, isWhole, cutLines, loadedLines, isOneBFirst, isInRange, isNotTooLong, orderOf, isNoTripleTwice, isNoShorterTwice, linesRefusal, bookRefusal, loadedOf, readRefusal, entryOf, isGram, gramOf, bookOfLines, bookOf, targetPartFrom, targetPart, partOf}
 use Rattle.meaning.specs.Direction.{isDirectionText, directionNumbers, numbersRefusal, directionRefusal, readDirectionRefusal, directionOf, wordCount}
-use Rattle.meaning.specs.Derivation.{wordScore, pairScore, backedOff, tripleScore, wordsScore, isEntry, entryAt, wordsFromTo, fits, covers, jump, jumps, timesCovered, isValid, targetWords, scoreOf}
+use Rattle.meaning.specs.Derivation.{wordScore, pairScore, backedOff, tripleScore, wordsScore, supplier, suppliers, isEntry, entryAt, wordsFromTo, fits, covers, jump, jumps, timesCovered, isValid, targetWords, scoreOf, suppliedOf}
 use Rattle.meaning.specs.State.{start, wordsCovered, isEqual, isFree, cover, mayExtend, lastTwo, nextKey, gain, isBetter, keyOf}
 use Rattle.meaning.specs.Search.{fittingSteps, isWithin, entered, lastSet, answer}
 use Rattle.meaning.specs.Reply.{readBook, readBookList, readDirection, readDirectionList, checkBook, stepsRefusal, proposalRefusal, scoreProposal, beforeSearch, afterSearch, decodeRefusal, decode, decodedSteps, decodedWords, decodedStore}
@@ -17,7 +17,7 @@ unfolding
     split isEnded linesOf isPositive isNatural isNumber valueOf
     kindOfByte kindOfLetter isTextLine isBookText textLines sizeOf isWhole cutLines loadedLines isOneBFirst isInRange isNotTooLong orderOf isNoTripleTwice isNoShorterTwice linesRefusal bookRefusal loadedOf readRefusal entryOf isGram gramOf bookOfLines bookOf targetPartFrom targetPart partOf
     isDirectionText directionNumbers numbersRefusal directionRefusal readDirectionRefusal directionOf wordCount
-    wordScore pairScore backedOff tripleScore wordsScore isEntry entryAt wordsFromTo fits covers jump jumps timesCovered isValid targetWords scoreOf
+    wordScore pairScore backedOff tripleScore wordsScore supplier suppliers isEntry entryAt wordsFromTo fits covers jump jumps timesCovered isValid targetWords scoreOf suppliedOf
     start wordsCovered isEqual isFree cover mayExtend lastTwo nextKey gain isBetter keyOf
     fittingSteps isWithin entered lastSet answer
     readBook readBookList readDirection readDirectionList checkBook stepsRefusal proposalRefusal scoreProposal beforeSearch afterSearch decodeRefusal decode decodedSteps decodedWords decodedStore

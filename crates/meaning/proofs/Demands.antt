@@ -18,13 +18,15 @@ use Rattle.laws.proofs.Bounds.{within-mono}
 use Rattle.meaning.specs.Questions.{_unless_, _orelse_, within, isOfSearch, isOfSteps}
 use Rattle.meaning.specs.Book.{Form, InList, Book, bookOf, bookRefusal, linesRefusal, loadedLines, isWhole, isOneBFirst, isInRange, isNotTooLong, isNoTripleTwice, isNoShorterTwice}
 use Rattle.meaning.specs.Direction.{wordCount, isDirectionWord, directionRefusal, numbersRefusal}
-use Rattle.meaning.specs.Derivation.{IsDerivation, fits, jump, isValid, targetWords, scoreOf, comesBefore}
+use Rattle.meaning.specs.Derivation.{IsDerivation, fits, jump, isValid, targetWords, scoreOf, suppliedOf, inAll, comesBefore}
 use Rattle.meaning.specs.State.{Key, Hyp, start, isFree, nextKey, scoreBound, spreadBound}
 use Rattle.meaning.specs.Search.{isOff, entered, lastSet, answer}
-use Rattle.meaning.specs.Reply.{refused, done, reply, writtenIf, Lent, stepsRefusal, proposalRefusal, scoreProposal, beforeSearch, afterSearch, decodeRefusal, answerScore, answerSteps, searchAnswer, decode, decodedSteps, decodedWords}
+use Rattle.meaning.specs.Reply.{refused, done, reply, writtenIf, Lent, stepsRefusal, proposalRefusal, totalsOf, scoreProposal, beforeSearch, afterSearch, decodeRefusal, answerScore, answerSteps, searchAnswer, decode, decodedSteps, decodedWords}
 use Rattle.meaning.specs.declared.Step.{Step}
+use Rattle.meaning.specs.declared.Totals.{Totals}
 use Rattle.meaning.specs.declared.Answer.{Answer}
 use Rattle.meaning.proofs.Chains.{first-passes, rest-passes, test-passes, skip, chain-ind, test-ind, done-passes, done-is, refused-is, reply-refused}
+use Rattle.meaning.proofs.Judging.{supplied-all}
 use Rattle.meaning.proofs.Valid.{proposal-valid}
 use Rattle.meaning.proofs.Ranges.{loaded-ranged}
 use Rattle.meaning.proofs.Answers.{covered-to, entered-bound, answer-last, answer-derives, answer-none, answer-best, answer-first, answer-only, none-valid, last-valid, valid-bound}
@@ -136,20 +138,25 @@ module _ (loaded : List ℤ) (direction : List ℕ) where
 
   -- ════ scoring: "a proposed list is found valid exactly when the notes say so"
 
+  -- what is reported are the totals of the steps
+  pub scored-totals : (steps : List Step) (t : Totals) → scoreProposal loaded direction steps ≡ done t → totalsOf book steps ≡ t
+  unfolding scoreProposal
+  scored-totals steps t e = done-is (proposalRefusal loaded direction steps) (totalsOf book steps) t e
+
   -- what is scored is a valid derivation, and the score is its score
-  pub scored-valid : (steps : List Step) (z : ℤ) → scoreProposal loaded direction steps ≡ done z → IsDerivation book direction z steps (targetWords book steps)
+  pub scored-valid : (steps : List Step) (t : Totals) → scoreProposal loaded direction steps ≡ done t → IsDerivation book direction (t .score) steps (targetWords book steps)
   unfolding scoreProposal proposalRefusal
-  scored-valid steps z e =
-      let p : proposalRefusal loaded direction steps ≡ 0 = done-passes (proposalRefusal loaded direction steps) (scoreOf book steps) z e in
+  scored-valid steps t e =
+      let p : proposalRefusal loaded direction steps ≡ 0 = done-passes (proposalRefusal loaded direction steps) (totalsOf book steps) t e in
       record {
         steps-valid = proposal-valid book direction steps .0 (rest-passes (directionRefusal direction) _ (rest-passes (bookRefusal loaded) _ p));
-        steps-score = done-is (proposalRefusal loaded direction steps) (scoreOf book steps) z e;
+        steps-score = ap (λ (x : Totals). x .score) (scored-totals steps t e);
         steps-words = refl;
       }
 
   -- and every valid derivation is scored, where the book and the direction pass
   pub valid-scored : bookRefusal loaded ≡ 0 → directionRefusal direction ≡ 0 → (steps : List Step) → isValid book direction steps ≡ true
-      → scoreProposal loaded direction steps ≡ done (scoreOf book steps)
+      → scoreProposal loaded direction steps ≡ done (totalsOf book steps)
   unfolding scoreProposal proposalRefusal
   valid-scored b d steps v = rw (b, d, proposal-valid book direction steps .1 v)
 
@@ -157,7 +164,7 @@ module _ (loaded : List ℤ) (direction : List ℕ) where
   pub refused-invalid : (steps : List Step) (k : ℕ) → isOfSteps k ≡ true → scoreProposal loaded direction steps ≡ refused k → isValid book direction steps ≡ false
   unfolding scoreProposal proposalRefusal bookRefusal directionRefusal
   refused-invalid steps k h e =
-      let p : proposalRefusal loaded direction steps ≡ k = refused-is (proposalRefusal loaded direction steps) k (scoreOf book steps) e in
+      let p : proposalRefusal loaded direction steps ≡ k = refused-is (proposalRefusal loaded direction steps) k (totalsOf book steps) e in
       let not-early : (j : ℕ) → IsEarly j → j ≡ k → ⊥ = (λ j n z. clash h (subst (λ (i : ℕ). isOfSteps i ≡ false) z (n .not-of-steps))) in
       let s = skip (directionRefusal direction) _ k (not-early _ (numbers-early (map pos direction))) (skip (bookRefusal loaded) _ k (not-early _ (lines-early InList (loadedLines loaded))) p) in
       is-false (λ v. clash h (ap isOfSteps (sym s ∙ proposal-valid book direction steps .1 v)))
@@ -168,7 +175,7 @@ module _ (loaded : List ℤ) (direction : List ℕ) where
   unfolding scoreProposal proposalRefusal
   invalid-refused b d steps v = rw (b, d) (by (stepsRefusal book direction (start (wordCount direction)) steps) (steps-from book direction (start (wordCount direction)) steps) (λ z. clash (proposal-valid book direction steps .0 z) v))
     where
-      by : (j : ℕ) → (j ≡ 0) ⊎ (isOfSteps j ≡ true) → (j ≡ 0 → ⊥) → (k : ℕ) × (isOfSteps k ≡ true) × (reply j (scoreOf book steps) ≡ refused k)
+      by : (j : ℕ) → (j ≡ 0) ⊎ (isOfSteps j ≡ true) → (j ≡ 0 → ⊥) → (k : ℕ) × (isOfSteps k ≡ true) × (reply j (totalsOf book steps) ≡ refused k)
       by zero r n = absurd (n refl)
       by (suc j) (inl z) n = absurd (n z)
       by (suc j) (inr h) n = (suc j, h, refl)
@@ -251,6 +258,25 @@ module _ (loaded : List ℤ) (direction : List ℕ) where
     decode-counts a e =
         let is : searchAnswer book direction width ≡ a = done-is (decodeRefusal loaded direction width lent) _ a e in
         (ap (λ (x : Answer). x .steps) (sym is), ap (λ (x : Answer). x .words) (sym is))
+
+    -- ticket 3: who supplied the scores of their target words is reported
+    pub decode-supplied : (a : Answer) → decode loaded direction width lent ≡ done a → a .supplied ≡ suppliedOf book (answerSteps (answer book direction width))
+    unfolding decode
+    decode-supplied a e = ap (λ (x : Answer). x .supplied) (sym (done-is (decodeRefusal loaded direction width lent) (searchAnswer book direction width) a e))
+
+    -- "they add up to all target words"
+    pub decode-in-all : (a : Answer) → decode loaded direction width lent ≡ done a → inAll (a .supplied) ≡ a .words
+    decode-in-all a e = ap inAll (decode-supplied a e) ∙ supplied-all book (answerSteps (answer book direction width)) ∙ sym (decode-counts a e .1)
+
+    -- and scoring the answer's steps reports the same score and the same counts
+    pub decode-scored : (a : Answer) → decode loaded direction width lent ≡ done a
+        → scoreProposal loaded direction (answerSteps (answer book direction width)) ≡ done (record { score = a .score; supplied = a .supplied })
+    unfolding beforeSearch
+    decode-scored a e =
+        let b = answered a e .before in
+        let d = decode-derives a e in
+        valid-scored (first-passes (bookRefusal loaded) _ b) (first-passes (directionRefusal direction) _ (rest-passes (bookRefusal loaded) _ b)) _ (d .steps-valid)
+        ∙ (λ i. done (record { score = d .steps-score i; supplied = sym (decode-supplied a e) i }))
 
     -- "and the best of the last set": no state of it has a higher score
     pub decode-last : (a : Answer) → decode loaded direction width lent ≡ done a → (q : Hyp) → List·Memᴰ q (lastSet book direction width) → q .score ≤ℤ a .score
@@ -457,6 +483,7 @@ module _ (loaded : List ℤ) (direction : List ℕ) where
             steps = length (answerSteps (same .2 i));
             words = length (targetWords book (answerSteps (same .2 i)));
             states = length (same .0 i);
+            supplied = suppliedOf book (answerSteps (same .2 i));
           },
         ))
 

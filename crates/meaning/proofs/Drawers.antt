@@ -16,9 +16,11 @@ use Rattle.meaning.specs.Book.{loadedOf, bookOf}
 use Rattle.meaning.specs.Direction.{wordCount}
 use Rattle.meaning.specs.Derivation.{isValid, targetWords, scoreOf}
 use Rattle.meaning.specs.Search.{answer}
-use Rattle.meaning.specs.Reply.{Reply, refused, done, Lent, answerSteps, decode, scoreProposal}
+use Rattle.meaning.specs.Reply.{Reply, refused, done, Lent, suppliedNumbers, answerSteps, decode, scoreProposal}
 use Rattle.meaning.specs.Render.{rendered}
 use Rattle.meaning.specs.declared.Step.{Step}
+use Rattle.meaning.specs.declared.Supplied.{Supplied}
+use Rattle.meaning.specs.declared.Totals.{Totals}
 use Rattle.meaning.specs.declared.Answer.{Answer}
 use Rattle.meaning.proofs.Computing.{computing}
 use Rattle.meaning.proofs.Rooms.{decode-room}
@@ -75,6 +77,8 @@ pub data Says : Type 0 where
   scores : ℤ → Says
   scoresStates : ℤ → ℕ → Says
   scoresSteps : ℤ → List Step → Says
+  -- ticket 3: how many target words were supplied by triples, pairs, words and u
+  scoresBy : ℤ → ℕ → ℕ → ℕ → ℕ → Says
 
 pub record Row : Type 0 where
   pub letter : String
@@ -94,12 +98,15 @@ answeredAs a steps (refuses k) = false
 answeredAs a steps (scores z) = eqℤ (a .score) z
 answeredAs a steps (scoresStates z n) = eqℤ (a .score) z && eqb (a .states) n
 answeredAs a steps (scoresSteps z want) = eqℤ (a .score) z && eqList eqStep steps want
+answeredAs a steps (scoresBy z triples pairs words unseen) =
+    eqℤ (a .score) z && eqList eqℤ (suppliedNumbers (a .supplied)) (pos triples ∷ pos pairs ∷ pos words ∷ pos unseen ∷ [])
 
 abbrev pub refusedAs : ℕ → Says → Bool
 refusedAs k (refuses m) = eqb k m
 refusedAs k (scores z) = false
 refusedAs k (scoresStates z n) = false
 refusedAs k (scoresSteps z want) = false
+refusedAs k (scoresBy z triples pairs words unseen) = false
 
 -- an answer's steps are also held to be a valid derivation of its score
 abbrev pub decodedAs : List ℤ → List ℕ → List Step → Reply Answer → Says → Bool
@@ -107,9 +114,9 @@ decodedAs loaded words steps (refused k) says = refusedAs k says
 decodedAs loaded words steps (done a) says =
     answeredAs a steps says && isValid (bookOf loaded) words steps && eqℤ (scoreOf (bookOf loaded) steps) (a .score)
 
-abbrev pub scoredAs : Reply ℤ → Says → Bool
+abbrev pub scoredAs : Reply Totals → Says → Bool
 scoredAs (refused k) says = refusedAs k says
-scoredAs (done z) says = answeredAs (record { score = z; steps = 0; words = 0; states = 0 }) [] says
+scoredAs (done t) says = answeredAs (record { score = t .score; steps = 0; words = 0; states = 0; supplied = t .supplied }) [] says
 
 -- lists long enough for these words, and a store of this many states
 abbrev pub lent : List ℕ → ℕ → Lent
@@ -159,8 +166,12 @@ abbrev pub Found : List ℤ → List Step → List ℕ → Type 0
 Found loaded steps words =
     (answerSteps (answer (bookOf loaded) direction off) ≡ steps) × (targetWords (bookOf loaded) (answerSteps (answer (bookOf loaded) direction off)) ≡ words)
 
+-- both words end listed triples
+abbrev byTriples : Supplied
+byTriples = record { triples = 2; pairs = 0; words = 0; unseen = 0 }
+
 abbrev pub answerD : Answer
-answerD = record { score = minus 120; steps = 2; words = 2; states = 5 }
+answerD = record { score = minus 120; steps = 2; words = 2; states = 5; supplied = byTriples }
 
 shortest-d : Decoding (short 2) 2 16 answerD
 unfolding computing bytes short
@@ -174,7 +185,7 @@ unfolding computing bytes short
 found-d = (refl, refl)
 
 abbrev pub answerE : Answer
-answerE = record { score = minus 150; steps = 2; words = 2; states = 4 }
+answerE = record { score = minus 150; steps = 2; words = 2; states = 4; supplied = byTriples }
 
 shortest-e : Decoding (short 1) 2 16 answerE
 unfolding computing bytes short
@@ -189,7 +200,7 @@ found-e = (refl, refl)
 
 -- ════ the printed example, from the two texts
 
-pub example-prints : rendered bookText (bytes "11,12\n") ≡ bytes "A,-110,1,2,6\nS,1,2,3\nW,102,101\n"
+pub example-prints : rendered bookText (bytes "11,12\n") ≡ bytes "A,-110,1,2,6,2,0,0,0\nS,1,2,3\nW,102,101\n"
 unfolding computing bytes bookText
 example-prints = refl
 

@@ -15,6 +15,7 @@ use Rattle.meaning.specs.Direction.{wordCount}
 use Rattle.meaning.specs.declared.Step.{Step}
 use Rattle.meaning.specs.declared.Supplier.{Supplier}
 use Rattle.meaning.specs.declared.Supplier.the-variants.{Triple, Pair, Word, Unseen}
+use Rattle.meaning.specs.declared.Supplied.{Supplied}
 
 -- ════ the language model
 
@@ -65,6 +66,30 @@ supplier grams v w y =
     cond (isListed grams (v ∷ w ∷ y ∷ [])) Triple
     (cond (isListed grams (w ∷ y ∷ [])) Pair
     (cond (isListed grams (y ∷ [])) Word Unseen))
+
+-- the place of each among the four counts: "triple, pair, word or u .. in that order"
+abbrev pub place : Supplier → ℕ
+place Triple = 1
+place Pair = 2
+place Word = 3
+place Unseen = 4
+
+-- who supplied the score of each target word in turn, in a row that goes on from v and w
+unfoldable pub suppliers : List Gram → ℕ → ℕ → List ℕ → List Supplier
+suppliers grams v w [] = []
+suppliers grams v w (y ∷ ys) = supplier grams v w y ∷ suppliers grams w y ys
+
+-- how many of them have a place
+abbrev pub countAt : ℕ → List Supplier → ℕ
+countAt k row = count (λ s. eqb (place s) k) row
+
+-- "four counts in that order, of the target words each supplied"
+abbrev pub countsBy : List Supplier → Supplied
+countsBy row = record { triples = countAt 1 row; pairs = countAt 2 row; words = countAt 3 row; unseen = countAt 4 row }
+
+-- "they add up to all target words"
+abbrev pub inAll : Supplied → ℕ
+inAll s = s .triples + s .pairs + s .words + s .unseen
 
 -- ════ steps
 
@@ -134,6 +159,10 @@ scoreOf book steps =
     sumℤ (map (λ step. entryAt book (step .entry) .g) steps)
     +ℤ sumℤ (map (λ j. book .eta *ℤ pos j) (jumps 0 steps))
     +ℤ wordsScore book 0 0 (targetWords book steps)
+
+-- ticket 3: who supplied the scores of the derivation's target words
+unfoldable pub suppliedOf : Book → List Step → Supplied
+suppliedOf book steps = countsBy (suppliers (book .grams) 0 0 (targetWords book steps))
 
 -- "the steps are a valid derivation of the score reported, and the words are theirs"
 pub record IsDerivation (book : Book) (direction : List ℕ) (score : ℤ) (steps : List Step) (words : List ℕ) : Type 0 where

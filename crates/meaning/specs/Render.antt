@@ -42,7 +42,7 @@ printedStep step = printedLine 83 (pos (step .first) ∷ pos (step .last) ∷ po
 abbrev pub printedRefusal : ℕ → List ℕ
 printedRefusal k = printedLine 82 (pos k ∷ [])
 
--- "A: score, steps, words, states; S: first, last, entry; W: the target words"
+-- "A: score, steps, words, states; S: first, last, entry; W: the target words"; ticket 3: "The A line prints them after the states."
 unfoldable pub printedAnswer : Answer → List Step → List ℕ → List ℕ
 printedAnswer a steps words =
     printedLine 65 (countsOf a)

@@ -12,7 +12,7 @@ use Rattle.laws.specs.Lists.{all, isEmpty}
 use Rattle.meaning.specs.Questions.{_unless_, _orelse_, number}
 use Rattle.meaning.specs.Book.{Book, bookRefusal, bookOf, readRefusal, loadedOf}
 use Rattle.meaning.specs.Direction.{wordCount, directionRefusal, readDirectionRefusal, directionOf}
-use Rattle.meaning.specs.Derivation.{fits, jump, targetWords, scoreOf}
+use Rattle.meaning.specs.Derivation.{fits, jump, targetWords, scoreOf, suppliedOf}
 use Rattle.meaning.specs.State.{Key, Hyp, start, nextKey, isFree}
 use Rattle.meaning.specs.Search.{isOff, entered, lastSet, answer}
 use Rattle.meaning.specs.declared.Step.{Step}
@@ -20,8 +20,10 @@ use Rattle.meaning.specs.declared.Read.{Read}
 use Rattle.meaning.specs.declared.Read.the-variants.{Numbers, Refused as ReadRefused}
 use Rattle.meaning.specs.declared.Checked.{Checked}
 use Rattle.meaning.specs.declared.Checked.the-variants.{Passed, Refused as CheckRefused}
+use Rattle.meaning.specs.declared.Supplied.{Supplied}
+use Rattle.meaning.specs.declared.Totals.{Totals}
 use Rattle.meaning.specs.declared.Scored.{Scored}
-use Rattle.meaning.specs.declared.Scored.the-variants.{Score, Refused as ScoreRefused}
+use Rattle.meaning.specs.declared.Scored.the-variants.{Done as Totalled, Refused as ScoreRefused}
 use Rattle.meaning.specs.declared.Answer.{Answer}
 use Rattle.meaning.specs.declared.Decoded.{Decoded}
 use Rattle.meaning.specs.declared.Decoded.the-variants.{Done, Refused as DecodeRefused}
@@ -85,8 +87,16 @@ checkBook loaded = reply (bookRefusal loaded) tt
 
 -- ════ scoring a proposed list
 
-abbrev pub scoredReply : Scored → Reply ℤ
-scoredReply (Score score) = done score
+-- the four counts in the order of a report: ticket 3, "triple, pair, word or u .. four counts in that order"
+abbrev pub suppliedNumbers : Supplied → List ℤ
+suppliedNumbers s = pos (s .triples) ∷ pos (s .pairs) ∷ pos (s .words) ∷ pos (s .unseen) ∷ []
+
+-- the numbers of a scoring in the order of a report: score, triples, pairs, words, u
+abbrev pub totalsNumbers : Totals → List ℤ
+totalsNumbers t = t .score ∷ suppliedNumbers (t .supplied)
+
+abbrev pub scoredReply : Scored → Reply Totals
+scoredReply (Totalled totals) = done totals
 scoredReply (ScoreRefused refusal) = refused (number refusal)
 
 -- 16, 17 and 18 of one step, and then what is asked after it
@@ -109,14 +119,18 @@ proposalRefusal loaded direction steps =
     orelse directionRefusal direction
     orelse stepsRefusal (bookOf loaded) direction (start (wordCount direction)) steps
 
-unfoldable pub scoreProposal : List ℤ → List ℕ → List Step → Reply ℤ
-scoreProposal loaded direction steps = reply (proposalRefusal loaded direction steps) (scoreOf (bookOf loaded) steps)
+-- ticket 3: "a successful scoring report[s] four counts"
+abbrev pub totalsOf : Book → List Step → Totals
+totalsOf book steps = record { score = scoreOf book steps; supplied = suppliedOf book steps }
+
+unfoldable pub scoreProposal : List ℤ → List ℕ → List Step → Reply Totals
+scoreProposal loaded direction steps = reply (proposalRefusal loaded direction steps) (totalsOf (bookOf loaded) steps)
 
 -- ════ decoding
 
--- the numbers of an answer in the order of a report: "score, steps, words, states"
+-- the numbers of an answer in the order of a report: score, steps, words, states, triples, pairs, words, u
 abbrev pub countsOf : Answer → List ℤ
-countsOf a = a .score ∷ pos (a .steps) ∷ pos (a .words) ∷ pos (a .states) ∷ []
+countsOf a = a .score ∷ pos (a .steps) ∷ pos (a .words) ∷ pos (a .states) ∷ suppliedNumbers (a .supplied)
 
 abbrev pub decodedReply : Decoded → Reply Answer
 decodedReply (Done a) = done a
@@ -159,14 +173,15 @@ abbrev pub answerSteps : Option Hyp → List Step
 answerSteps none = []
 answerSteps (some q) = q .steps
 
--- what the search of the notes determines: "a highest score in set n", how many steps and target words its derivation has, and
--- "the number of different states entered in all sets"
+-- what the search of the notes determines: "a highest score in set n", how many steps and target words its derivation has,
+-- "the number of different states entered in all sets", and, ticket 3, who supplied the scores of its target words
 abbrev pub searchAnswer : Book → List ℕ → ℤ → Answer
 searchAnswer book direction width = record {
   score = answerScore (answer book direction width);
   steps = length (answerSteps (answer book direction width));
   words = length (targetWords book (answerSteps (answer book direction width)));
   states = length (entered book direction width);
+  supplied = suppliedOf book (answerSteps (answer book direction width));
 }
 
 unfoldable pub decode : List ℤ → List ℕ → ℤ → Lent → Reply Answer

@@ -102,12 +102,21 @@ pub fn number_of(refusal: Refusal) -> usize
     }
 }
 
-// Which of the triple that a target word ends, the pair, the word alone or u supplied its score.
+// Which of the triple that a target word ends, the pair, the word alone or u supplied its score; `place` in specs/Derivation gives each its place
+// among the four counts.
 pub enum Supplier {
     Triple,
     Pair,
     Word,
     Unseen,
+}
+
+// Of a derivation's target words, how many were supplied by each.
+pub struct Supplied {
+    pub triples: usize,
+    pub pairs: usize,
+    pub words: usize,
+    pub unseen: usize,
 }
 
 // Reading a book or a direction: how many numbers were written.
@@ -122,18 +131,26 @@ pub enum Checked {
     Refused(Refusal),
 }
 
-// Scoring a proposed list of steps: its score.
+// A successful scoring: the score, and who supplied the scores of the target words.
+pub struct Totals {
+    pub score: i64,
+    pub supplied: Supplied,
+}
+
+// Scoring a proposed list of steps.
 pub enum Scored {
-    Score(i64),
+    Done(Totals),
     Refused(Refusal),
 }
 
-// A successful decode: the score, how many steps and target words were written, and how many states were entered.
+// A successful decode: the score, how many steps and target words were written, how many states were entered, and who supplied the scores of the
+// target words.
 pub struct Answer {
     pub score: i64,
     pub steps: usize,
     pub words: usize,
     pub states: usize,
+    pub supplied: Supplied,
 }
 
 pub enum Decoded {
