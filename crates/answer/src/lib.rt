@@ -24,19 +24,6 @@ pub struct PlainReply {
     pub reply: Decoded,
 }
 
-// The entry's target words at the beginning of a list.
-fn copy_words(book: &[i32], p: Phrase, words: &mut [u16])
-    requires { ⌜ Phrased (now book) p ⌝ }
-    requires { ⌜ p .count ≤ length (now words) ⌝ }
-    ensures { λ _. ⌜ ((e : Entry) → PhraseOf (now (book .entry)) e p → now (words .exit) ≡ writtenOver (e .target) (now (words .entry))) ⌝ }
-{
-    let mut j = 0;
-    while j < p.count {
-        words[j] = derivation::model::word_at(book, p.target + j);
-        j += 1;
-    }
-}
-
 // The steps of the first d numbers of a row, as plain numbers.
 fn steps_of(way: &[usize], d: usize) -> Plain
     requires { ⌜ (d ≤ 32) × (d ≤ length (now way)) ⌝ }
@@ -50,33 +37,6 @@ fn steps_of(way: &[usize], d: usize) -> Plain
         k += 1;
     }
     plain
-}
-
-// Each step's target words follow those of the step before; how many there are.
-// Document 01's form: the rest of the word list, from the current count, is lent on to the copier of one entry's words.
-fn write_words(
-    book: &[i32],
-    index: &[u16],
-    phrases: usize,
-    plain: Plain,
-    words: &mut [u16],
-) -> usize
-    requires { ⌜ EntriesAt (now book) (now index) phrases ⌝ }
-    requires { ⌜ (plain .count ≤ 32) × (8 * plain .count ≤ length (now words)) ⌝ }
-    requires { ⌜ ((k : ℕ) → k < plain .count → (1 ≤ stepIn plain k .entry) × (stepIn plain k .entry ≤ phrases)) ⌝ }
-    ensures { λ r. ⌜ r ≡ length (targetWords (bookOf (now (book .entry))) (stepsOf plain)) ⌝ }
-    ensures { λ r. ⌜ now (words .exit) ≡ writtenOver (targetWords (bookOf (now (book .entry))) (stepsOf plain)) (now (words .entry)) ⌝ }
-{
-    let mut count = 0;
-    let mut k = 0;
-    while k < plain.count {
-        let step = records::step_in(plain, k);
-        let p = derivation::places::phrase_at(book, index, phrases, step.entry as usize);
-        copy_words(book, p, &mut words[count..]);
-        count += p.count;
-        k += 1;
-    }
-    count
 }
 
 // The best state of a search: its place in the store, and how many states were entered.

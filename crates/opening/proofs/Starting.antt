@@ -121,6 +121,7 @@ module _ {loaded : List ℤ} {index : List ℕ} {counts : Counts} {t : Setup} (d
     passed = o .passed;
     directed = d;
     model = modelled;
+    grams-are = listed;
     scores-are = same-score;
     n-is = k .n-is;
     limit-is = k .limit-is;

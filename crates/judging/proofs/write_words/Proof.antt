@@ -11,12 +11,12 @@ use Rattle.derivation.specs.Model.{PhraseOf}
 use Rattle.meaning.specs.declared.Step.{Step}
 use Rattle.records.specs.Plain.{stepIn, stepsTo}
 use Rattle.laws.proofs.Fill.{over-long}
-use Rattle.answer.proofs.Answers.{write-count, write-more}
-use Rattle.answer.proofs.write_words.Statement.{statement}
-use Rattle.answer.proofs.write_words.Tie as tie
-use Rattle.answer.proofs.write_words.Reads as reads
-use Rattle.answer.proofs.write_words.Lts as lts
-use Rattle.answer.proofs.copy_words.Reads as copy-words-reads
+use Rattle.judging.proofs.Words.{write-count, write-more}
+use Rattle.judging.proofs.write_words.Statement.{statement}
+use Rattle.judging.proofs.write_words.Tie as tie
+use Rattle.judging.proofs.write_words.Reads as reads
+use Rattle.judging.proofs.write_words.Lts as lts
+use Rattle.judging.proofs.copy_words.Reads as copy-words-reads
 use Rattle.derivation.proofs.places.phrase_at.Reads as phrase-at-reads
 use Rattle.records.proofs.step_in.Reads as step-in-reads
 
@@ -28,56 +28,43 @@ abbrev μ-loop : tie.MeasureT-loop
 μ-loop book index phrases plain words₀ count₀ k₀ words count k =
     plain .count - k
 
--- src/lib.rt:105:5
 loop-holds : tie.Need-loop-holds Inv-loop μ-loop
 unfolding targetWords
 loop-holds c = (omega arith, (omega arith, (refl, (refl, refl))))
 
--- src/lib.rt:106:13
 step-in-requires : tie.Need-step-in-requires Inv-loop μ-loop
 step-in-requires c κs = search needs
 
--- src/lib.rt:107:71
 cast-phrase-at : tie.Need-cast-phrase-at Inv-loop μ-loop
 cast-phrase-at c = search needs
 
--- src/lib.rt:107:13
 phrase-at-requires : tie.Need-phrase-at-requires Inv-loop μ-loop
 phrase-at-requires c κs = let s = c .before .before .before .before .before .before .before in let e = s .pre .1 .1 (c .before .before .before .before .loop .k) (c .before .before .if1 .taken) in let z = ap (λ (x : Step). x .entry) (c .before .step-in .ensures) in (s .pre .0, (rw z (e .0), rw z (e .1)))
 
--- src/lib.rt:108:29
 mul-copy-words : tie.Need-mul-copy-words Inv-loop μ-loop
 mul-copy-words c = search needs
 
--- src/lib.rt:108:29
 sub-copy-words : tie.Need-sub-copy-words Inv-loop μ-loop
 sub-copy-words c = search needs
 
--- src/lib.rt:108:29
 part-copy-words-start : tie.Need-part-copy-words-start Inv-loop μ-loop
 part-copy-words-start c = search needs
 
--- src/lib.rt:108:29
 part-copy-words-end : tie.Need-part-copy-words-end Inv-loop μ-loop
 part-copy-words-end c = search needs
 
--- src/lib.rt:108:9
 copy-words-requires : tie.Need-copy-words-requires Inv-loop μ-loop
 copy-words-requires c κs = let of = c .before .phrase-at .ensures in let l = c .before .before .before .before .before .before .loop in let f = of .target-at .few in let a = l .inv .1 .0 in let m = l .inv .1 .1 .0 in let r = c .before .before .before .before .before .before .before .before .before .pre .1 .0 .1 in let h = c .before .before .before .before .if1 .taken in (record { entry = entryAt (bookOf (c .before .before .before .before .before .before .before .before .before .args .book .now)) _; is = of }, rw (length-take, length-drop) (omega arith))
 
--- src/lib.rt:109:9
 add-count : tie.Need-add-count Inv-loop μ-loop
 add-count c = let of = c .before .before .before .before .before .phrase-at .ensures in let f = of .target-at .few in let a = c .before .before .before .before .before .before .before .before .before .before .loop .inv .1 .0 in let r = c .before .before .before .before .before .before .before .before .before .before .before .before .before .pre .1 .0 .0 in let h = c .before .before .before .before .before .before .before .before .if1 .taken in omega arith
 
--- src/lib.rt:110:9
 add-k : tie.Need-add-k Inv-loop μ-loop
 add-k c = search needs
 
--- src/lib.rt:105:5
 loop-less : tie.Need-loop-less Inv-loop μ-loop
 loop-less c = search needs
 
--- src/lib.rt:105:5
 loop-again : tie.Need-loop-again Inv-loop μ-loop
 loop-again c =
     let s = c .before .before .before .before .before .before .before .before .before .before .before .before .before in
@@ -95,11 +82,9 @@ loop-again c =
     let written = write-more book (s .args .plain) k (s .args .words .now) (l .inv .1 .1 .1 .1) (l .inv .1 .1 .1 .0) (c .before .before .before .copy-words .ensures _ of) in
     (omega arith, (omega arith, (ap length written ∙ over-long (targetWords book (stepsTo (s .args .plain) (k + 1))) (s .args .words .now) (omega arith), (more, written))))
 
--- src/lib.rt:96:1
 same-length : tie.Need-same-length Inv-loop μ-loop
 same-length c = search needs
 
--- src/lib.rt:96:1
 returns : tie.Need-returns Inv-loop μ-loop
 returns c = let s = c .before .before .before .before .before in let l = c .before .before .loop in let e : l .k ≡ s .args .plain .count = omega arith in (l .inv .1 .1 .1 .0 ∙ ap (λ (m : ℕ). length (targetWords (bookOf (s .args .book .now)) (stepsTo (s .args .plain) m))) e, l .inv .1 .1 .1 .1 ∙ ap (λ (m : ℕ). writtenOver (targetWords (bookOf (s .args .book .now)) (stepsTo (s .args .plain) m)) (s .args .words .now)) e)
 
