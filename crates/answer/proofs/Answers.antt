@@ -15,7 +15,8 @@ use Rattle.laws.proofs.Fill.{Filled, fill-put, fill-count, fill-end, over-more}
 use Rattle.laws.specs.Lists.{concat}
 use Rattle.laws.proofs.Lists.{drop-next, take-next, concat-++, getD-mem}
 use Rattle.meaning.specs.Book.{Book, bookOf}
-use Rattle.meaning.specs.Derivation.{noStep, entryAt, targetWords}
+use Rattle.meaning.specs.Derivation.{noStep, targetWords, suppliedOf}
+use Rattle.meaning.specs.declared.Supplied.{Supplied}
 use Rattle.meaning.specs.Direction.{wordCount}
 use Rattle.meaning.specs.Reply.{writtenOver}
 use Rattle.meaning.specs.State.{Hyp}
@@ -108,20 +109,23 @@ module _ {loaded : List ℤ} {direction : List ℕ} {index : List ℕ} {phrases 
       let m = A .counted in
       (subst (λ (x : Step). 1 ≤ x .entry) e (g .entry-from), (let z : stepIn plain i .entry ≤ length (bookOf loaded .entries) = subst (λ (x : Step). x .entry ≤ length (bookOf loaded .entries)) e (g .entry-to) in omega arith))
 
--- what is read off the store and written down is what the state says
-pub told : {book : Book} {direction : List ℕ} {st : List ℤ} {k : ℕ} {q : Hyp} (E : Ends book direction st k q) {words₀ words₁ : List ℕ} (plain : Plain) {out : List ℕ} {d many states : ℕ} {score : ℤ}
+-- what is read off the store, written down and counted is what the state says
+pub told : {book : Book} {direction : List ℕ} {st : List ℤ} {k : ℕ} {q : Hyp} (E : Ends book direction st k q) {words₀ words₁ : List ℕ} (plain : Plain) {out : List ℕ} {d many states : ℕ} {score : ℤ} {supplied : Supplied}
     → Way (getD (E .list) k nobody .steps) out d → d ≤ length out
     → (plain .count ≡ d) × (stepsOf plain ≡ map stepOf (take d out))
     → (many ≡ length (targetWords book (stepsOf plain))) × (words₁ ≡ writtenOver (targetWords book (stepsOf plain)) words₀)
     → score ≡ placeAt st k .state .score
-    → Told book q states words₀ words₁ (record { plain = plain; reply = Done (record { score = score; steps = d; words = many; states = states }) })
-told {book} {q} E {words₀} plain {d} {many} {states} {score} W h (c, s) (m, w) z =
+    → supplied ≡ suppliedOf book (stepsOf plain)
+    → Told book q states words₀ words₁ (record { plain = plain; reply = Done (record { score = score; steps = d; words = many; states = states; supplied = supplied }) })
+told {book} {q} E {words₀} plain {d} {many} {states} W h (c, s) (m, w) z u =
     let ss : stepsOf plain ≡ q .steps = s ∙ way-steps E W h in
+    let score-is = z ∙ E .shown .score-is in
+    let steps-are = way-long E W in
+    let words-are = m ∙ ap (λ (xs : List Step). length (targetWords book xs)) ss in
+    let supplied-is = u ∙ ap (suppliedOf book) ss in
     record {
       steps-are = ss;
       count-is = c ∙ way-long E W;
       words-after = w ∙ ap (λ (xs : List Step). writtenOver (targetWords book xs) words₀) ss;
-      reply-is = ap (λ (x : ℤ). Done (record { score = x; steps = d; words = many; states = states })) (z ∙ E .shown .score-is)
-          ∙ ap (λ (x : ℕ). Done (record { score = q .score; steps = x; words = many; states = states })) (way-long E W)
-          ∙ ap (λ (x : ℕ). Done (record { score = q .score; steps = length (q .steps); words = x; states = states })) (m ∙ ap (λ (xs : List Step). length (targetWords book xs)) ss);
+      reply-is = λ i. Done (record { score = score-is i; steps = steps-are i; words = words-are i; states = states; supplied = supplied-is i });
     }

@@ -6,7 +6,7 @@ use mathlib.Core.List.{List}
 use lib.IntN.{ℤ}
 use lib.ListN.{length, getD}
 use Rattle.meaning.specs.Book.{Book}
-use Rattle.meaning.specs.Derivation.{noStep, fits, targetWords}
+use Rattle.meaning.specs.Derivation.{noStep, fits, targetWords, suppliedOf}
 use Rattle.meaning.specs.Direction.{wordCount}
 use Rattle.meaning.specs.Reply.{writtenOver}
 use Rattle.meaning.specs.State.{Hyp}
@@ -35,9 +35,9 @@ pub record Ended (book : Book) (direction : List ℕ) (st : List ℤ) (k : ℕ) 
 
 -- the answer that the state q gives, where so many states were entered
 abbrev pub answerBy : Book → Hyp → ℕ → Answer
-answerBy book q states = record { score = q .score; steps = length (q .steps); words = length (targetWords book (q .steps)); states = states }
+answerBy book q states = record { score = q .score; steps = length (q .steps); words = length (targetWords book (q .steps)); states = states; supplied = suppliedOf book (q .steps) }
 
--- what is answered of the state q: its steps, their words, its score, and how many states were entered
+-- what is answered of the state q: its steps, their words, its score, how many states were entered, and who supplied the words' scores
 pub record Told (book : Book) (q : Hyp) (states : ℕ) (words₀ words₁ : List ℕ) (r : PlainReply) : Type 0 where
   pub steps-are : stepsOf (r .plain) ≡ q .steps
   pub count-is : r .plain .count ≡ length (q .steps)

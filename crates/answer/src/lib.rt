@@ -1,5 +1,5 @@
 // The answer: the best state's steps as plain numbers, and their target words.
-use derivation::Phrase;
+use derivation::Setup;
 use meaning::Answer;
 use meaning::Decoded;
 use records::Plain;
@@ -7,12 +7,9 @@ ghost use mathlib.Core.Path.{_≡_};
 ghost use mathlib.Core.List.{map};
 ghost use Prim.Native.Nat.{ℕ, _*_, _≤_, _<_};
 ghost use lib.ListN.{length, getD, take};
-ghost use Rattle.meaning.specs.Book.{Entry, bookOf};
-ghost use Rattle.meaning.specs.Reply.{writtenOver};
-ghost use Rattle.derivation.specs.Model.{PhraseOf, Phrased};
-ghost use Rattle.meaning.specs.Derivation.{targetWords};
-ghost use Rattle.book.specs.Entries.{EntriesAt};
-ghost use Rattle.records.specs.Plain.{stepIn, stepsOf};
+ghost use Rattle.meaning.specs.Book.{bookOf};
+ghost use Rattle.derivation.specs.Prepared.{Prepared};
+ghost use Rattle.records.specs.Plain.{stepsOf};
 ghost use Rattle.ways.specs.Codes.{stepOf, codes};
 ghost use Rattle.meaning.specs.Direction.{wordCount};
 ghost use Rattle.meaning.specs.State.{Hyp};
@@ -45,17 +42,17 @@ pub struct Best {
     pub states: usize,
 }
 
-// The answer from the best state: its steps, their words and its score. (`direction` is for the contract.)
+// The answer from the best state: its steps, their words, its score, and who supplied the scores of the words. (`direction` is for the contract.)
 pub fn trace(
     store: &[i64],
     best: Best,
     book: &[i32],
     direction: &[u16],
     index: &[u16],
-    phrases: usize,
+    t: Setup,
     words: &mut [u16],
 ) -> PlainReply
-    requires { ⌜ EntriesAt (now book) (now index) phrases ⌝ }
+    requires { ⌜ Prepared (now book) (now direction) (now index) t ⌝ }
     requires { ⌜ Ended (bookOf (now book)) (now direction) (now store) (best .at) ⌝ }
     requires { ⌜ 8 * wordCount (now direction) ≤ length (now words) ⌝ }
     ensures { λ r. ⌜ ((q : Hyp) → Ends (bookOf (now (book .entry))) (now (direction .entry)) (now (store .entry)) (best .at) q → Told (bookOf (now (book .entry))) q (best .states) (now (words .entry)) (now (words .exit)) r) ⌝ }
@@ -63,7 +60,8 @@ pub fn trace(
     let mut way = [0usize; 32];
     let d = ways::paths::path(store, best.at, &mut way);
     let plain = steps_of(&way, d);
-    let many = write_words(book, index, phrases, plain, words);
+    let many = judging::write_words(book, index, t.phrases, plain, words);
+    let supplied = judging::judge_words(index, t, &words[..many]);
     let x = store::places::place_at(store, best.at);
     PlainReply {
         plain,
@@ -72,6 +70,7 @@ pub fn trace(
             steps: d,
             words: many,
             states: best.states,
+            supplied,
         }),
     }
 }
