@@ -24,7 +24,7 @@ use Rattle.meaning.specs.declared.Step.{Step}
 use Rattle.meaning.proofs.Steps.{fits-facts}
 use Rattle.records.specs.Plain.{stepIn, stepsTo, stepsOf, unlessFull, withStep, Added}
 use Rattle.records.specs.declared.Plain.{Plain}
-use Rattle.records.proofs.Laws.{count-steps}
+use Rattle.records.proofs.Laws.{step-at}
 use Rattle.derivation.specs.Model.{WordsAt, wordIn, PhraseOf}
 use Rattle.derivation.specs.declared.Phrase.{Phrase}
 use Rattle.derivation.specs.declared.Setup.{Setup}
@@ -49,17 +49,6 @@ steps-more f way {p} {r} {step} {k} h few e s z a =
     )
 
 -- ════ the steps of the numbers that the store holds
-
-step-at : (p : Plain) (m i : ℕ) (d : Step) → i < m → getD (stepsTo p m) i d ≡ stepIn p i
-step-at p zero i d h = absurd (omega arith)
-step-at p (suc m) i d h = by (ℕ-discrete i m) (λ g. step-at p m i d g)
-  where
-    by : Dec (i ≡ m) → (i < m → getD (stepsTo p m) i d ≡ stepIn p i) → getD (stepsTo p (suc m)) i d ≡ stepIn p i
-    by (yes e) before =
-        let l = count-steps p m in
-        let z : length (stepsTo p m) ≡ i = omega arith in
-        ap (λ (j : ℕ). getD (stepsTo p m ++ (stepIn p m ∷ [])) j d) (sym z) ∙ getD-append-seam (stepsTo p m) (stepIn p m) [] d ∙ ap (stepIn p) (sym e)
-    by (no q) before = let l = count-steps p m in List·getD-append (stepsTo p m) (stepIn p m ∷ []) d i (omega arith) ∙ before (omega arith)
 
 way-is : (f : ℕ → Step) (out : List ℕ) (steps : List Step) → length steps ≤ length out → ((i : ℕ) → i < length steps → f (getD out i 0) ≡ getD steps i noStep)
     → map f (take (length steps) out) ≡ steps

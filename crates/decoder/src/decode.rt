@@ -68,8 +68,7 @@ fn conclude(
                 at: k,
                 states: count,
             };
-            let phrases = beam.setup.phrases;
-            let told = answer::trace(store, best, book, direction, index, phrases, words);
+            let told = answer::trace(store, best, book, direction, index, beam.setup, words);
             clearing::clear_used(store, count);
             told
         }

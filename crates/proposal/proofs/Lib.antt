@@ -1,3 +1,4 @@
 pub mod Asking
 pub mod Long
 pub mod Scoring
+pub mod Numbers

@@ -89,44 +89,13 @@ module _ (book : Book) (direction : List ℕ) where
   same-reply zero a b e = ap (reply 0) (e refl)
   same-reply (suc k) a b e = refl
 
-  -- "Scoring a proposed list": its first 33 steps give the reply of the whole list
-  pub front-decides : wordCount direction ≤ 32 → (steps : List Step)
-      → reply (stepsRefusal book direction (start (wordCount direction)) (take 33 steps)) (scoreOf book (take 33 steps))
-      ≡ reply (stepsRefusal book direction (start (wordCount direction)) steps) (scoreOf book steps)
-  front-decides few steps =
+  -- "Scoring a proposed list": its first 33 steps give the reply of the whole list, whatever is reported of the steps
+  pub front-decides : {A : Type 0} (report : List Step → A) → wordCount direction ≤ 32 → (steps : List Step)
+      → reply (stepsRefusal book direction (start (wordCount direction)) (take 33 steps)) (report (take 33 steps))
+      ≡ reply (stepsRefusal book direction (start (wordCount direction)) steps) (report steps)
+  front-decides report few steps =
       let w = start-whole in
       let z = start-none in
-      ap (λ (k : ℕ). reply k (scoreOf book (take 33 steps))) (refusal-front 33 (start (wordCount direction)) steps w (omega arith))
-      ∙ same-reply (stepsRefusal book direction (start (wordCount direction)) steps) (scoreOf book (take 33 steps)) (scoreOf book steps)
-      (λ e. let s = passes-short (start (wordCount direction)) steps w e in ap (scoreOf book) (take-all 33 steps (omega arith)))
-
--- ════ a list of step records, put down as numbers
-
-shown-next : (numbers : List ℕ) (m : ℕ) → stepsIn numbers (m + 1) ≡ stepsIn numbers m ++ (stepIn numbers m ∷ [])
-unfolding stepsIn
-shown-next numbers m =
-    let z : 0 + m ≡ m = omega arith in
-    ap (map (stepIn numbers)) (numbers-next 0 m ∙ ap (λ (k : ℕ). numbersFrom 0 m ++ (k ∷ [])) z) ∙ map-append (stepIn numbers) (numbersFrom 0 m) (m ∷ [])
-
--- where the numbers show the first `count` records, the steps that code reads are those
-pub steps-shown : (numbers : List ℕ) (steps : List Step) (count : ℕ) → count ≤ length steps → ((i : ℕ) → i < count → stepIn numbers i ≡ getD steps i noStep)
-    → stepsIn numbers count ≡ take count steps
-unfolding stepsIn
-steps-shown numbers steps zero h each = refl
-steps-shown numbers steps (suc m) h each =
-    let z : suc m ≡ m + 1 = omega arith in
-    ap (stepsIn numbers) z ∙ shown-next numbers m
-    ∙ ap₂ (λ (xs : List Step) (s : Step). xs ++ (s ∷ [])) (steps-shown numbers steps m (omega arith) (λ i l. each i (omega arith))) (each m (omega arith))
-    ∙ sym (take-next steps m noStep (omega arith)) ∙ ap (λ (k : ℕ). take k steps) (sym z)
-
--- so where they are all of them, or the first 33, the numbers get the reply of the whole list
-pub numbers-decide : (book : Book) (direction : List ℕ) (numbers : List ℕ) (steps : List Step) (count : ℕ) → wordCount direction ≤ 32
-    → count ≤ length steps → (length steps ≤ count) ⊎ (count ≡ 33) → ((i : ℕ) → i < count → stepIn numbers i ≡ getD steps i noStep)
-    → reply (stepsRefusal book direction (start (wordCount direction)) (stepsIn numbers count)) (scoreOf book (stepsIn numbers count))
-    ≡ reply (stepsRefusal book direction (start (wordCount direction)) steps) (scoreOf book steps)
-numbers-decide book direction numbers steps count few h which each =
-    ap whole (steps-shown numbers steps count h each)
-    ∙ ⊎-elim (λ a. ap whole (take-all count steps a)) (λ e. ap (λ (m : ℕ). whole (take m steps)) e ∙ front-decides book direction few steps) which
-  where
-    whole : List Step → Reply ℤ
-    whole xs = reply (stepsRefusal book direction (start (wordCount direction)) xs) (scoreOf book xs)
+      ap (λ (k : ℕ). reply k (report (take 33 steps))) (refusal-front 33 (start (wordCount direction)) steps w (omega arith))
+      ∙ same-reply (stepsRefusal book direction (start (wordCount direction)) steps) (report (take 33 steps)) (report steps)
+      (λ e. let s = passes-short (start (wordCount direction)) steps w e in ap report (take-all 33 steps (omega arith)))

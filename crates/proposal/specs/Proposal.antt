@@ -3,7 +3,7 @@ use Prim.Native.Nat.{ℕ, _+_, _*_, _^_, _<_}
 use mathlib.Core.Path.{_≡_}
 use mathlib.Core.Bool.{true}
 use mathlib.Core.List.{List, map}
-use lib.IntN.{_+ℤ_}
+use lib.IntN.{ℤ, _+ℤ_}
 use lib.ListN.{getD}
 use Rattle.laws.specs.Integers.{Within}
 use Rattle.laws.specs.Lists.{numbersFrom}
@@ -11,11 +11,13 @@ use Rattle.meaning.specs.Questions.{number}
 use Rattle.meaning.specs.Book.{Book}
 use Rattle.meaning.specs.Direction.{wordCount}
 use Rattle.meaning.specs.State.{wordsCovered, mayExtend, nextKey, gain, gainBound, keyOf}
-use Rattle.meaning.specs.Reply.{stepRefusal}
+use Rattle.meaning.specs.Reply.{Reply, refused, done, stepRefusal}
 use Rattle.meaning.specs.declared.Step.{Step}
 use Rattle.meaning.specs.declared.State.{State}
 use Rattle.proposal.specs.declared.Asked.{Asked}
 use Rattle.proposal.specs.declared.Asked.the-variants.{Next, Refused}
+use Rattle.proposal.specs.declared.Summed.{Summed}
+use Rattle.proposal.specs.declared.Summed.the-variants.{Score, Refused as ListRefused}
 
 abbrev pub stepOf : ℕ → ℕ → ℕ → Step
 stepOf first last entry = record { first = first; last = last; entry = entry }
@@ -44,3 +46,8 @@ pub record Follows (book : Book) (direction : List ℕ) (s : State) (step : Step
 abbrev pub AskedOf : Book → List ℕ → State → Step → Asked → Type 0
 AskedOf book direction s step (Next t) = Follows book direction s step t
 AskedOf book direction s step (Refused refusal) = (rest : ℕ) → number refusal ≡ stepRefusal book direction (keyOf (wordCount direction) s) step rest
+
+-- what a list answers to 16 to 19
+abbrev pub summedReply : Summed → Reply ℤ
+summedReply (Score score) = done score
+summedReply (ListRefused refusal) = refused (number refusal)

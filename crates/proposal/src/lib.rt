@@ -6,6 +6,8 @@ use derivation::step;
 use meaning::Refusal;
 use meaning::Scored;
 use meaning::State;
+use meaning::Totals;
+use records::Plain;
 ghost use mathlib.Core.Path.{_≡_};
 ghost use Prim.Native.Nat.{_+_, _*_, _≤_, _<_};
 ghost use lib.ListN.{length};
@@ -13,14 +15,21 @@ ghost use Rattle.meaning.specs.Book.{bookOf};
 ghost use Rattle.meaning.specs.Direction.{wordCount};
 ghost use Rattle.meaning.specs.Derivation.{fits, scoreOf};
 ghost use Rattle.meaning.specs.State.{start};
-ghost use Rattle.meaning.specs.Reply.{reply, scoredReply, stepsRefusal};
+ghost use Rattle.meaning.specs.Reply.{reply, scoredReply, stepsRefusal, totalsOf};
 ghost use Rattle.book.specs.Entries.{EntriesAt};
 ghost use Rattle.derivation.specs.Prepared.{Prepared};
-ghost use Rattle.proposal.specs.Proposal.{stepOf, stepsIn, Bounded, AskedOf};
+ghost use Rattle.records.specs.Plain.{stepsOf};
+ghost use Rattle.proposal.specs.Proposal.{stepOf, stepsIn, summedReply, Bounded, AskedOf};
 
 // What is asked of a proposed step: the state that it leads to, or the question that refuses it.
 pub enum Asked {
     Next(State),
+    Refused(Refusal),
+}
+
+// What is asked of a proposed list: its score, or the question that refuses it.
+pub enum Summed {
+    Score(i64),
     Refused(Refusal),
 }
 
@@ -81,17 +90,17 @@ pub fn ask_step(
 }
 
 // Questions 16 to 19 of the first `count` steps, in their order, and their score where none refuses.
-pub fn score_steps(
+fn sum_steps(
     book: &[i32],
     index: &[u16],
     t: Setup,
     direction: &[u16],
     steps: &[u16],
     count: usize,
-) -> Scored
+) -> Summed
     requires { ⌜ Prepared (now book) (now direction) (now index) t ⌝ }
     requires { ⌜ 3 * count ≤ length (now steps) ⌝ }
-    ensures { λ r. ⌜ scoredReply r ≡ reply (stepsRefusal (bookOf (now (book .entry))) (now (direction .entry)) (start (wordCount (now (direction .entry)))) (stepsIn (now (steps .entry)) count)) (scoreOf (bookOf (now (book .entry))) (stepsIn (now (steps .entry)) count)) ⌝ }
+    ensures { λ r. ⌜ summedReply r ≡ reply (stepsRefusal (bookOf (now (book .entry))) (now (direction .entry)) (start (wordCount (now (direction .entry)))) (stepsIn (now (steps .entry)) count)) (scoreOf (bookOf (now (book .entry))) (stepsIn (now (steps .entry)) count)) ⌝ }
 {
     let mut s = State::START;
     let mut i = 0;
@@ -101,12 +110,29 @@ pub fn score_steps(
         let entry = steps[3 * i + 2];
         match ask_step(book, index, t, direction, s, first, last, entry) {
             Asked::Next(next) => s = next,
-            Asked::Refused(refusal) => return Scored::Refused(refusal),
+            Asked::Refused(refusal) => return Summed::Refused(refusal),
         }
         i += 1;
     }
     if s.covered != positions::covered_with(0, 1, t.n) {
-        return Scored::Refused(Refusal::Uncovered);
+        return Summed::Refused(Refusal::Uncovered);
     }
-    Scored::Score(s.score)
+    Summed::Score(s.score)
+}
+
+// Questions 16 to 19 of at most 33 steps, in their order; where none refuses, their score, and who supplied the scores of their target words.
+pub fn score_steps(book: &[i32], index: &[u16], t: Setup, direction: &[u16], plain: Plain) -> Scored
+    requires { ⌜ Prepared (now book) (now direction) (now index) t ⌝ }
+    requires { ⌜ plain .count ≤ 33 ⌝ }
+    ensures { λ r. ⌜ scoredReply r ≡ reply (stepsRefusal (bookOf (now (book .entry))) (now (direction .entry)) (start (wordCount (now (direction .entry)))) (stepsOf plain)) (totalsOf (bookOf (now (book .entry))) (stepsOf plain)) ⌝ }
+{
+    let steps = plain.numbers;
+    let count = plain.count;
+    match sum_steps(book, index, t, direction, &steps, count) {
+        Summed::Score(score) => {
+            let supplied = judging::judge_steps(book, direction, index, t, plain);
+            Scored::Done(Totals { score, supplied })
+        }
+        Summed::Refused(refusal) => Scored::Refused(refusal),
+    }
 }

@@ -19,35 +19,6 @@ use Rattle.proposal.specs.Proposal.{stepIn, stepsIn}
 use Rattle.records.specs.declared.Plain.{Plain}
 use Rattle.records.specs.Plain.{stepIn as recordIn, stepsTo, stepsOf}
 
--- ════ steps as numbers
-
--- one step, whichever way its places are counted
-same-place : (numbers : List ℕ) (p : Plain) (i : ℕ) → p .numbers ≡ numbers → stepIn numbers i ≡ recordIn p i
-same-place numbers p i e = let z : 3 * i ≡ i * 3 = omega arith in rw (e, z)
-
--- one step more
-next-in : (numbers : List ℕ) (k : ℕ) → stepsIn numbers (suc k) ≡ stepsIn numbers k ++ (stepIn numbers k ∷ [])
-unfolding stepsIn
-next-in numbers k =
-    let z : suc k ≡ k + 1 = omega arith in
-    let y : 0 + k ≡ k = omega arith in
-    ap (λ (m : ℕ). map (stepIn numbers) (numbersFrom 0 m)) z
-    ∙ ap (map (stepIn numbers)) (numbers-next 0 k ∙ ap (λ (m : ℕ). numbersFrom 0 k ++ (m ∷ [])) y)
-    ∙ map-append (stepIn numbers) (numbersFrom 0 k) (k ∷ [])
-
--- the first k steps, by the places 3 * i and by the places i * 3
-steps-to : (p : Plain) (k : ℕ) → stepsIn (p .numbers) k ≡ stepsTo p k
-unfolding stepsIn
-steps-to p zero = refl
-steps-to p (suc k) =
-    next-in (p .numbers) k
-    ∙ ap (λ (xs : List Step). xs ++ (stepIn (p .numbers) k ∷ [])) (steps-to p k)
-    ∙ ap (λ (s : Step). stepsTo p k ++ (s ∷ [])) (same-place (p .numbers) p k refl)
-
--- all of them
-steps-same : (p : Plain) → stepsIn (p .numbers) (p .count) ≡ stepsOf p
-steps-same p = steps-to p (p .count)
-
 -- ════ the reply
 
 module _ (loaded : List ℤ) (direction : List ℕ) (steps : List Step) where

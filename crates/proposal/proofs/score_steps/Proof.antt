@@ -1,202 +1,53 @@
--- From state to state, what is left of the list asks and adds what the whole list does from the start.
-use borrow.Author.Needs.{needs}
-use Prim.Native.Nat.{_+_, _-_, _*_, _^_, _≤_, _<_}
+-- What the walk over the steps answers is the reply; where it is a score, each step has an entry of the book, and the words are judged.
 use native.Mathlib.Omega.{arith}
-use mathlib.Core.Path.{_≡_, sym, _∙_, ap}
-use mathlib.Core.List.{[], _∷_}
-use lib.IntN.{ℤ}
-use lib.ListN.{length}
-use lib.Pow.{pow-mono, pow-pos}
+use mathlib.Core.Path.{_≡_, sym, _∙_}
+use lib.ListN.{length, length-map}
 use Rattle.laws.proofs.Got.{i64}
 use Rattle.meaning.specs.Book.{bookOf}
-use Rattle.meaning.specs.Direction.{wordCount}
-use Rattle.meaning.specs.Reply.{Reply, done}
-use Rattle.proposal.specs.Proposal.{stepIn, stepsIn}
-use Rattle.proposal.proofs.Asking.{direction-few}
-use Rattle.proposal.proofs.Scoring.{rest, rest-start, rest-next, rest-end, Scoring, scoring-starts, scoring-goes, scoring-stops, scoring-lacks, scoring-ends}
+use Rattle.proposal.proofs.Numbers.{entries-in, said, said-passes, totalled, turned-down}
+use borrow.Author.Needs.{needs}
 use Rattle.proposal.proofs.score_steps.Statement.{statement}
 use Rattle.proposal.proofs.score_steps.Tie as tie
 
-abbrev Inv-loop : tie.InvT-loop
-Inv-loop book index t direction steps count s₀ i₀ s i = (i ≤ count) × Scoring (bookOf book) direction (stepsIn steps count) s (rest steps count i)
+slice-aggregate-sum-steps : tie.Need-slice-aggregate-sum-steps
+slice-aggregate-sum-steps c = search needs
 
-abbrev μ-loop : tie.MeasureT-loop
-μ-loop book index t direction steps count s₀ i₀ s i = count - i
+sum-steps-requires : tie.Need-sum-steps-requires
+sum-steps-requires c κs = let s = c .before .before .before .before in (s .pre .0, omega (arith, slice-aggregate-sum-steps c, s .pre .1))
 
--- the step's three numbers stand in the list, which is no longer than memory
-inside : (c : tie.In-loop Inv-loop μ-loop)
-    → let steps = c .before .before .before .before .before .args .steps .now in
-    (3 * c .before .loop .i + 2 < length steps) × (length steps * 2 < 2 ^ 64)
-inside c =
-    let h = c .before .before .before .before .before .pre .1 in
-    let t = c .loop-test .taken in
-    (omega (arith, h, t), small (c .before .before .before .before .before))
-  where
-    small : (b : tie.Start Inv-loop μ-loop) → length (b .args .steps .now) * 2 < 2 ^ 64
-    small b = omega arith
+enum-known-score : tie.Need-enum-known-score
+enum-known-score c = search needs
 
--- the direction has 1 to 32 words
-n-few : (b : tie.Start Inv-loop μ-loop) → (1 ≤ b .args .t .n) × (b .args .t .n ≤ 32)
-unfolding wordCount
-n-few b =
-    let d = direction-few (b .args .direction .now) (b .pre .0 .directed) in
-    let n = b .pre .0 .n-is in
-    let x = d .0 in
-    let y = d .1 in
-    (omega arith, omega arith)
+judge-steps-requires : tie.Need-judge-steps-requires
+judge-steps-requires c κs =
+    let s = c .before .before .before .before .before .before .before .before in
+    let e = said (bookOf (s .args .book .now)) (s .args .direction .now) (s .args .plain) (rw (c .before .score .given .1) at (c .before .before .before .sum-steps .ensures)) in
+    (s .pre .0, (s .pre .1, entries-in (s .pre .0 .entries-at) (s .args .direction .now) (s .args .plain) (said-passes (bookOf (s .args .book .now)) (s .args .direction .now) (s .args .plain) _ e)))
 
--- one step more is left
-left-next : (c : tie.In-loop Inv-loop μ-loop)
-    → let b = c .before .before .before .before .before in
-    let l = c .before .loop in
-    Scoring (bookOf (b .args .book .now)) (b .args .direction .now) (stepsIn (b .args .steps .now) (b .args .count)) (l .s) (stepIn (b .args .steps .now) (l .i) ∷ rest (b .args .steps .now) (b .args .count) (l .i + 1))
-left-next c =
-    let b = c .before .before .before .before .before in
-    let l = c .before .loop in
-    rw (rest-next (b .args .steps .now) (b .args .count) (l .i) (omega (arith, c .loop-test .taken))) at (l .inv .1)
-
--- none is left
-left-none : (c : tie.After-loop Inv-loop μ-loop)
-    → let b = c .before .before .before .before .before in
-    Scoring (bookOf (b .args .book .now)) (b .args .direction .now) (stepsIn (b .args .steps .now) (b .args .count)) (c .before .loop .s) []
-left-none c =
-    let b = c .before .before .before .before .before in
-    let l = c .before .loop in
-    rw (rest-end (b .args .steps .now) (b .args .count) (l .i) (omega (arith, c .loop-test .left))) at (l .inv .1)
-
--- all digits
-all-ones : (c : tie.After-covered-with Inv-loop μ-loop) → c .covered-with .result ≡ 2 ^ wordCount (c .before .before .before .before .before .before .args .direction .now) - 1
-all-ones c = let n = c .before .before .before .before .before .before .pre .0 .n-is in let e = rw n at (c .covered-with .ensures) in omega (arith, e)
-
--- src/proposal.rt:103:5
-loop-holds : tie.Need-loop-holds Inv-loop μ-loop
-loop-holds c =
-    let b = c .before .before .before .args in
-    (omega arith, rw (rest-start (b .steps .now) (b .count)) (scoring-starts (bookOf (b .book .now)) (b .direction .now) (stepsIn (b .steps .now) (b .count))))
-
--- src/proposal.rt:104:27
-mul-first : tie.Need-mul-first Inv-loop μ-loop
-mul-first c = let h = inside c in omega (arith, h .0, h .1)
-
--- src/proposal.rt:104:21
-mul-first-2 : tie.Need-mul-first-2 Inv-loop μ-loop
-mul-first-2 c = let h = inside c in omega (arith, h .0, h .1)
-
--- src/proposal.rt:104:21
-shared-slice-read-first : tie.Need-shared-slice-read-first Inv-loop μ-loop
-shared-slice-read-first c = let h = inside (c .before) in omega (arith, h .0, h .1)
-
--- src/proposal.rt:105:26
-mul-last : tie.Need-mul-last Inv-loop μ-loop
-mul-last c = let h = inside (c .before) in omega (arith, h .0, h .1)
-
--- src/proposal.rt:105:26
-add-last : tie.Need-add-last Inv-loop μ-loop
-add-last c = let h = inside (c .before) in omega (arith, h .0, h .1)
-
--- src/proposal.rt:105:20
-mul-last-2 : tie.Need-mul-last-2 Inv-loop μ-loop
-mul-last-2 c = let h = inside (c .before) in omega (arith, h .0, h .1)
-
--- src/proposal.rt:105:20
-shared-slice-read-last : tie.Need-shared-slice-read-last Inv-loop μ-loop
-shared-slice-read-last c = let h = inside (c .before .before) in omega (arith, h .0, h .1)
-
--- src/proposal.rt:106:27
-mul-entry : tie.Need-mul-entry Inv-loop μ-loop
-mul-entry c = let h = inside (c .before .before) in omega (arith, h .0, h .1)
-
--- src/proposal.rt:106:27
-add-entry : tie.Need-add-entry Inv-loop μ-loop
-add-entry c = let h = inside (c .before .before) in omega (arith, h .0, h .1)
-
--- src/proposal.rt:106:21
-mul-entry-2 : tie.Need-mul-entry-2 Inv-loop μ-loop
-mul-entry-2 c = let h = inside (c .before .before) in omega (arith, h .0, h .1)
-
--- src/proposal.rt:106:21
-shared-slice-read-entry : tie.Need-shared-slice-read-entry Inv-loop μ-loop
-shared-slice-read-entry c = let h = inside (c .before .before .before) in omega (arith, h .0, h .1)
-
--- src/proposal.rt:107:15
-ask-step-requires : tie.Need-ask-step-requires Inv-loop μ-loop
-ask-step-requires c κs = let b = c .before .before .before .before .before .before .before .before in (b .pre .0, c .before .before .before .before .loop .inv .1 .ready)
-
--- src/proposal.rt:108:25
-enum-known-next : tie.Need-enum-known-next Inv-loop μ-loop
-enum-known-next c = search needs
-
--- src/proposal.rt:109:28
-enum-known-refusal : tie.Need-enum-known-refusal Inv-loop μ-loop
+enum-known-refusal : tie.Need-enum-known-refusal
 enum-known-refusal c = search needs
 
--- src/proposal.rt:109:40
-returns : tie.Need-returns Inv-loop μ-loop
+returns : tie.Need-returns
 returns c =
-    let b = c .before .before .before .before .before .before .before .before .before .before .before .before .args in
-    scoring-stops (bookOf (b .book .now)) (b .direction .now) (left-next (c .before .before .before .before .before .before .before)) (c .before .refusal .given .0 .0) (rw (c .before .refusal .given .1) at (c .before .before .before .ask-step .ensures))
+    let s = c .before .before .before .before .before .before .before .before .before in
+    let back : i64 (c .before .before .score .given .0 .0) ≡ c .before .before .score .given .0 .0 = search needs in
+    totalled (bookOf (s .args .book .now)) (s .args .direction .now) (s .args .plain) back (c .judge-steps .ensures)
+    (said (bookOf (s .args .book .now)) (s .args .direction .now) (s .args .plain) (rw (c .before .before .score .given .1) at (c .before .before .before .before .sum-steps .ensures)))
 
--- src/proposal.rt:111:9
-add-i : tie.Need-add-i Inv-loop μ-loop
-add-i c = let h = inside (c .before .before .before .before .before .before .before) in omega (arith, h .0, h .1)
-
--- src/proposal.rt:103:5
-loop-less : tie.Need-loop-less Inv-loop μ-loop
-loop-less c = let t = c .before .before .before .before .before .before .before .loop-test .taken in omega arith
-
--- src/proposal.rt:103:5
-loop-again : tie.Need-loop-again Inv-loop μ-loop
-loop-again c =
-    let b = c .before .before .before .before .before .before .before .before .before .before .before .before .args in
-    let t = c .before .before .before .before .before .before .before .loop-test .taken in
-    (omega arith, scoring-goes (bookOf (b .book .now)) (b .direction .now) (left-next (c .before .before .before .before .before .before .before)) (rw (c .before .next .given .1) at (c .before .before .before .ask-step .ensures)))
-
--- src/proposal.rt:113:21
-covered-with-requires : tie.Need-covered-with-requires Inv-loop μ-loop
-covered-with-requires c κs =
-    let n = n-few (c .before .before .before .before .before) in
-    let p = pow-mono {i = c .before .before .before .before .before .args .t .n} {j = 32} (n .1) in
-    let q = pow-pos (c .before .before .before .before .before .args .t .n) in
-    (omega arith, (n .0, (n .1, omega (arith, p, q))))
-
--- src/proposal.rt:114:9
-returns-2 : tie.Need-returns-2 Inv-loop μ-loop
+returns-2 : tie.Need-returns-2
 returns-2 c =
-    let b = c .before .before .before .before .before .before .before .before .args in
-    scoring-lacks (bookOf (b .book .now)) (b .direction .now) (left-none (c .before .before .before)) (λ e. c .if1 .taken (e ∙ sym (all-ones (c .before .before))))
-
--- src/proposal.rt:84:1
-returns-3 : tie.Need-returns-3 Inv-loop μ-loop
-returns-3 c =
-    let b = c .before .before .before .before .before .before .before .before .before .args in
-    let p : i64 (c .before .before .before .before .before .loop .s .score) ≡ c .before .before .before .before .before .loop .s .score = search needs in
-    ap {B = Reply ℤ} done p ∙ scoring-ends (bookOf (b .book .now)) (b .direction .now) (left-none (c .before .before .before .before)) (c .before .if1 .left ∙ all-ones (c .before .before .before))
+    let s = c .before .before .before .before .before .before .before .before in
+    turned-down (bookOf (s .args .book .now)) (s .args .direction .now) (s .args .plain) (c .before .refusal .given .0 .0)
+    (said (bookOf (s .args .book .now)) (s .args .direction .now) (s .args .plain) (rw (c .before .refusal .given .1) at (c .before .before .before .sum-steps .ensures)))
 
 pub score-steps-spec : {M : Type 1} → statement M
 score-steps-spec =
     tie.close
     (tie.spec
-    Inv-loop
-    μ-loop
-    loop-holds
-    mul-first
-    mul-first-2
-    shared-slice-read-first
-    mul-last
-    add-last
-    mul-last-2
-    shared-slice-read-last
-    mul-entry
-    add-entry
-    mul-entry-2
-    shared-slice-read-entry
-    ask-step-requires
-    enum-known-next
+    slice-aggregate-sum-steps
+    sum-steps-requires
+    enum-known-score
+    judge-steps-requires
     enum-known-refusal
     returns
-    add-i
-    loop-less
-    loop-again
-    covered-with-requires
-    returns-2
-    returns-3)
+    returns-2)
