@@ -7,10 +7,10 @@ use lib.ListN.{take}
 use Rattle.meaning.specs.Questions.{_orelse_}
 use Rattle.meaning.specs.Book.{bookRefusal, bookOf}
 use Rattle.meaning.specs.Direction.{wordCount, directionRefusal}
-use Rattle.meaning.specs.Derivation.{scoreOf}
 use Rattle.meaning.specs.State.{start}
-use Rattle.meaning.specs.Reply.{Reply, reply, stepsRefusal, proposalRefusal, scoreProposal, scoredReply}
+use Rattle.meaning.specs.Reply.{Reply, reply, stepsRefusal, proposalRefusal, totalsOf, scoreProposal, scoredReply}
 use Rattle.meaning.specs.declared.Step.{Step}
+use Rattle.meaning.specs.declared.Totals.{Totals}
 use Rattle.meaning.specs.declared.Scored.{Scored}
 use Rattle.meaning.proofs.Demands.{direction-to}
 use Rattle.proposal.proofs.Long.{front-decides}
@@ -24,11 +24,11 @@ module _ (loaded : List ℤ) (direction : List ℕ) where
   front-same steps = by (bookRefusal loaded) (directionRefusal direction) refl refl
     where
       -- the reply after the book's and the direction's refusal
-      after : ℕ → ℕ → List Step → Reply ℤ
-      after b d xs = reply (b orelse d orelse stepsRefusal (bookOf loaded) direction (start (wordCount direction)) xs) (scoreOf (bookOf loaded) xs)
+      after : ℕ → ℕ → List Step → Reply Totals
+      after b d xs = reply (b orelse d orelse stepsRefusal (bookOf loaded) direction (start (wordCount direction)) xs) (totalsOf (bookOf loaded) xs)
 
       by : (b d : ℕ) → bookRefusal loaded ≡ b → directionRefusal direction ≡ d → after b d (take 33 steps) ≡ after b d steps
-      by zero zero p q = front-decides (bookOf loaded) direction (direction-to direction q) steps
+      by zero zero p q = front-decides (bookOf loaded) direction (totalsOf (bookOf loaded)) (direction-to direction q) steps
       by zero (suc d) p q = refl
       by (suc b) d p q = refl
 

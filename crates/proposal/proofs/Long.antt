@@ -1,28 +1,24 @@
 -- A list of steps of any length is judged by its first 33: each step that passes covers a word more, so of 32 words none is left for the 33rd.
 use Prim.Native.Nat.{ℕ, zero, suc, _+_, _≤_, _<_}
 use native.Mathlib.Omega.{arith}
-use mathlib.Core.Path.{_≡_, refl, sym, _∙_, ap, ap₂}
-use mathlib.Core.Logic.{_⊎_, ⊎-elim}
+use mathlib.Core.Path.{_≡_, refl, _∙_, ap}
 use mathlib.Core.Bool.{true, false}
-use mathlib.Core.List.{List, [], _∷_, _++_, map, map-append}
+use mathlib.Core.List.{List, [], _∷_}
 use lib.Dec.{leb}
-use lib.IntN.{ℤ}
-use lib.ListN.{length, getD, take, length-replicate}
+use lib.ListN.{length, take, length-replicate}
 use lib.Seq.{take-all}
-use Rattle.laws.specs.Lists.{numbersFrom}
 use Rattle.laws.proofs.Tests.{by-test}
-use Rattle.laws.proofs.Lists.{count-le, take-next, numbers-next}
+use Rattle.laws.proofs.Lists.{count-le}
 use Rattle.meaning.specs.Questions.{_unless_}
 use Rattle.meaning.specs.Book.{Book}
 use Rattle.meaning.specs.Direction.{wordCount}
-use Rattle.meaning.specs.Derivation.{noStep, fits, jump, scoreOf}
+use Rattle.meaning.specs.Derivation.{fits, jump}
 use Rattle.meaning.specs.State.{Key, start, wordsCovered, isFree, nextKey}
-use Rattle.meaning.specs.Reply.{Reply, reply, stepsRefusal}
+use Rattle.meaning.specs.Reply.{reply, stepsRefusal}
 use Rattle.meaning.specs.declared.Step.{Step}
 use Rattle.meaning.proofs.Chains.{first-passes, rest-passes, test-passes}
 use Rattle.meaning.proofs.Steps.{fits-facts}
 use Rattle.meaning.proofs.Cover.{cover-length, cover-adds, none-covered}
-use Rattle.proposal.specs.Proposal.{stepIn, stepsIn}
 
 module _ (book : Book) (direction : List ℕ) where
   -- a key has a bit for each word

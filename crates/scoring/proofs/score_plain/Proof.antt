@@ -1,13 +1,11 @@
--- What is asked before gives the refusal, or the lists that 16 to 19 are asked with; the steps that are read are those of the plain numbers.
+-- What is asked before gives the refusal, or the list that 16 to 19 are asked with.
 -- That a list of so many zeros has this length is said by `length-replicate`: `search` would compute it, a step for each number.
 use Prim.Native.Nat.{ℕ}
-use borrow.Author.Needs.{needs}
-use mathlib.Core.Path.{_≡_, sym, _∙_}
+use mathlib.Core.Path.{sym, _∙_}
 use native.Mathlib.Omega.{arith}
-use lib.ListN.{length, length-map, length-replicate}
-use Rattle.meaning.specs.Reply.{scoredReply}
+use lib.ListN.{length-replicate}
 use Rattle.records.specs.Plain.{stepsOf}
-use Rattle.scoring.proofs.Scoring.{scored-last, refused-before}
+use Rattle.scoring.proofs.Scoring.{asked-last, refused-before}
 use Rattle.scoring.proofs.score_plain.Statement.{statement}
 use Rattle.scoring.proofs.score_plain.Tie as tie
 
@@ -23,28 +21,21 @@ enum-known-t c = c .match .keys1
 slice-aggregate-score-steps : tie.Need-slice-aggregate-score-steps
 slice-aggregate-score-steps c = sym (c .before .before .before .before .before .open-and-begin .kept .1 .1 .0 ∙ length-replicate {A = ℕ} _ 0)
 
-slice-aggregate-score-steps-2 : tie.Need-slice-aggregate-score-steps-2
-slice-aggregate-score-steps-2 c = search needs
-
 score-steps-requires : tie.Need-score-steps-requires
-score-steps-requires c κs =
-    let s = rw (c .before .before .before .t .given .1) at (c .before .before .before .before .before .before .open-and-begin .ensures) in
-    let a = c .before .before .before .before .before .before .before .before .before .before .args in
-    let long : length (a .plain .numbers) ≡ 99 = sym (length-map (a .plain .numbers) _) ∙ c .before .before .before .before .before .before .before .before .before .before .good .1 .1 .0 .1 .1 .1 .0 .1 .0 .1 in
-    (s, omega (arith, long, c .before .before .before .before .before .before .before .before .before .before .pre))
+score-steps-requires c κs = (rw (c .before .before .t .given .1) at (c .before .before .before .before .before .open-and-begin .ensures), c .before .before .before .before .before .before .before .before .pre)
 
 enum-known-refusal : tie.Need-enum-known-refusal
 enum-known-refusal c = c .match .keys2
 
 returns : tie.Need-returns
 returns c =
-    let a = c .before .before .before .before .before .before .before .before .before .before .before .args in
-    let s = rw (c .before .before .before .before .t .given .1) at (c .before .before .before .before .before .before .before .open-and-begin .ensures) in
-    scored-last (a .book .now) (a .direction .now) (a .plain) (scoredReply (c .score-steps .result)) (s .passed) (s .directed) (c .score-steps .ensures)
+    let a = c .before .before .before .before .before .before .before .before .before .args in
+    let s = rw (c .before .before .before .t .given .1) at (c .before .before .before .before .before .before .open-and-begin .ensures) in
+    c .score-steps .ensures ∙ asked-last (a .book .now) (a .direction .now) (stepsOf (a .plain)) (s .passed) (s .directed)
 
 returns-2 : tie.Need-returns-2
 returns-2 c =
-    let a = c .before .before .before .before .before .before .before .before .args in
+    let a = c .before .before .before .before .before .before .before .args in
     refused-before (a .book .now) (a .direction .now) (stepsOf (a .plain)) (c .before .refusal .given .0 .0) (rw (c .before .refusal .given .1) at (c .before .before .before .before .open-and-begin .ensures))
 
 pub score-plain-spec : {M : Type 1} → statement M
@@ -55,7 +46,6 @@ score-plain-spec =
     open-and-begin-requires
     enum-known-t
     slice-aggregate-score-steps
-    slice-aggregate-score-steps-2
     score-steps-requires
     enum-known-refusal
     returns

@@ -43,7 +43,7 @@ enum-known-k c = search needs
 
 -- src/decode.rt:67:17
 trace-requires : tie.Need-trace-requires
-trace-requires c κs = let s = c .before .before .before .before .before .before .before .before .before .before in let b = rw (c .before .before .before .k .given .1) at (c .before .before .before .before .before .pick-best .ensures .0) .0 in (s .pre .0 .entries-at, (record { state = _; ends = last-ends _ _ _ (s .pre .1 .0) _ b }, s .pre .1 .1))
+trace-requires c κs = let s = c .before .before .before .before .before .before .before .before .before .before in let b = rw (c .before .before .before .k .given .1) at (c .before .before .before .before .before .pick-best .ensures .0) .0 in (s .pre .0, (record { state = _; ends = last-ends _ _ _ (s .pre .1 .0) _ b }, s .pre .1 .1))
 
 -- src/decode.rt:68:13
 clear-used-requires-2 : tie.Need-clear-used-requires-2
