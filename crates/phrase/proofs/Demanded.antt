@@ -14,23 +14,35 @@ use lib.Seq.{take-at, drop-at}
 use Rattle.laws.proofs.Tests.{by-test, is-false, clash}
 use Rattle.meaning.specs.Questions.{number, isOfSteps}
 use Rattle.meaning.specs.Book.{Book, bookOf}
-use Rattle.meaning.specs.Derivation.{targetWords, scoreOf}
+use Rattle.meaning.specs.Derivation.{targetWords, suppliedOf, inAll}
 use Rattle.meaning.specs.State.{Key, AreReachable}
 use Rattle.meaning.specs.Search.{isOff, entered, answer}
-use Rattle.meaning.specs.Reply.{Reply, refused, done, Lent, writtenOver, proposalRefusal, scoreProposal, scoredReply, beforeSearch, decodeRefusal, answerSteps, decode, decodedReply, clearedIf, decodedSteps, decodedWords, decodedStore, Decodes, searchAnswer}
+use Rattle.meaning.specs.Reply.{Reply, refused, done, Lent, writtenOver, proposalRefusal, totalsOf, scoreProposal, scoredReply, beforeSearch, decodeRefusal, answerSteps, decode, decodedReply, clearedIf, decodedSteps, decodedWords, decodedStore, Decodes, searchAnswer}
 use Rattle.meaning.specs.declared.Answer.{Answer}
 use Rattle.meaning.specs.declared.Decoded.{Decoded}
 use Rattle.meaning.specs.declared.Decoded.the-variants.{Done, Refused}
 use Rattle.meaning.specs.declared.Scored.{Scored}
-use Rattle.meaning.specs.declared.Scored.the-variants.{Score, Refused as ScoreRefused}
+use Rattle.meaning.specs.declared.Scored.the-variants.{Done as Totalled, Refused as ScoreRefused}
+use Rattle.meaning.specs.declared.Totals.{Totals}
 use Rattle.meaning.specs.declared.Refusal.{Refusal}
 use Rattle.meaning.specs.declared.Refusal.the-variants.{StoreTooSmall, NoDerivation, LastSetEmpty}
 use Rattle.meaning.specs.declared.Step.{Step}
 use Rattle.meaning.proofs.Chains.{done-passes, refused-is, reply-done, written-done, written-refused, done-is}
+use Rattle.meaning.proofs.Judging.{supplied-all}
 use Rattle.meaning.proofs.Demands as Notes
 use Rattle.meaning.proofs.Reach.{keysEntered, entered-all, entered-few, entered-counted, never-13, always-13}
 use Rattle.meaning.proofs.Numbered.{number-from, number-same, refused-reply}
 use Rattle.phrase.specs.Demands.{DecodeDemands, SameAnswer, ScoreDemands}
+
+-- ════ the result of a scoring by its reply
+
+refused-scored : (result : Scored) (k : ℕ) → scoredReply result ≡ refused k → (refusal : Refusal) × (result ≡ ScoreRefused refusal) × (number refusal ≡ k)
+refused-scored (Totalled t) k e = let c : _≡_ {A = ℕ} 0 1 = cc in absurd (omega arith)
+refused-scored (ScoreRefused r) k e = (r, refl, cc)
+
+done-scored : (result : Scored) (t : Totals) → scoredReply result ≡ done t → result ≡ Totalled t
+done-scored (Totalled s) t e = let c : s ≡ t = cc in ap Totalled c
+done-scored (ScoreRefused r) t e = let c : _≡_ {A = ℕ} 0 1 = cc in absurd (omega arith)
 
 -- ════ a decode
 
@@ -199,6 +211,9 @@ module _ (loaded : List ℤ) (direction : List ℕ) (width : ℤ) (steps₀ step
           valid-and-exact = λ a e. rw (steps-first a e, words-first a e) (Notes.decode-derives loaded direction width lent a (decoded a e));
           rest-kept = lists-rest;
           steps-are = steps-first;
+          supplied-are = λ a e. Notes.decode-supplied loaded direction width lent a (decoded a e) ∙ ap (suppliedOf book) (sym (steps-first a e));
+          supplied-in-all = λ a e. Notes.decode-in-all loaded direction width lent a (decoded a e);
+          scored-again = λ a e s r. done-scored s _ (r ∙ ap (scoreProposal loaded direction) (steps-first a e) ∙ Notes.decode-scored loaded direction width lent a (decoded a e));
           states-entered = states-entered;
           states-reachable = λ w a e keys r. states-entered a e ∙ ap (λ (v : ℤ). length (entered book direction v)) w ∙ entered-counted book direction keys r;
         };
@@ -234,14 +249,6 @@ same-answer loaded direction width steps₀ steps₁ steps₀′ steps₂ words�
 
 -- ════ a scoring
 
-refused-scored : (result : Scored) (k : ℕ) → scoredReply result ≡ refused k → (refusal : Refusal) × (result ≡ ScoreRefused refusal) × (number refusal ≡ k)
-refused-scored (Score z) k e = let c : _≡_ {A = ℕ} 0 1 = cc in absurd (omega arith)
-refused-scored (ScoreRefused r) k e = (r, refl, cc)
-
-done-scored : (result : Scored) (z : ℤ) → scoredReply result ≡ done z → result ≡ Score z
-done-scored (Score y) z e = let c : y ≡ z = cc in ap Score c
-done-scored (ScoreRefused r) z e = let c : _≡_ {A = ℕ} 0 1 = cc in absurd (omega arith)
-
 module _ (loaded : List ℤ) (direction : List ℕ) (steps : List Step) (result : Scored) (E : scoredReply result ≡ scoreProposal loaded direction steps) where
   turned-down′ : (refusal : Refusal) → (proposalRefusal loaded direction steps ≡ number refusal) ↔ (result ≡ ScoreRefused refusal)
   unfolding scoreProposal
@@ -252,12 +259,17 @@ module _ (loaded : List ℤ) (direction : List ℕ) (steps : List Step) (result 
     λ e. refused-is (proposalRefusal loaded direction steps) (number refusal) _ (sym E ∙ ap scoredReply e),
   )
 
+  supplied-is : (t : Totals) → result ≡ Totalled t → t .supplied ≡ suppliedOf (bookOf loaded) steps
+  supplied-is t e = ap (λ (x : Totals). x .supplied) (sym (Notes.scored-totals loaded direction steps t (sym E ∙ ap scoredReply e)))
+
   pub score-demands : ScoreDemands loaded direction steps result
   score-demands =
       record {
         turned-down = turned-down′;
-        scored-valid = λ z e. let d = Notes.scored-valid loaded direction steps z (sym E ∙ ap scoredReply e) in (d .steps-valid, d .steps-score);
-        valid-scored = λ b d v. done-scored result (scoreOf (bookOf loaded) steps) (E ∙ Notes.valid-scored loaded direction b d steps v);
+        scored-valid = λ t e. let d = Notes.scored-valid loaded direction steps t (sym E ∙ ap scoredReply e) in (d .steps-valid, d .steps-score);
+        supplied-are = supplied-is;
+        supplied-in-all = λ t e. ap inAll (supplied-is t e) ∙ supplied-all (bookOf loaded) steps;
+        valid-scored = λ b d v. done-scored result (totalsOf (bookOf loaded) steps) (E ∙ Notes.valid-scored loaded direction b d steps v);
         refused-invalid = λ refusal e h. Notes.refused-invalid loaded direction steps (number refusal) h (sym E ∙ ap scoredReply e);
         invalid-refused = λ b d v.
             let k = Notes.invalid-refused loaded direction b d steps v in

@@ -13,16 +13,17 @@ use lib.ListN.{length, take, drop, replicate}
 use Rattle.meaning.specs.Questions.{number, isOfSearch, isOfSteps}
 use Rattle.meaning.specs.Book.{Book, bookOf, bookRefusal}
 use Rattle.meaning.specs.Direction.{directionRefusal}
-use Rattle.meaning.specs.Derivation.{IsDerivation, isValid, scoreOf, comesBefore}
+use Rattle.meaning.specs.Derivation.{IsDerivation, isValid, targetWords, scoreOf, suppliedOf, inAll, comesBefore}
 use Rattle.meaning.specs.State.{Key, Hyp, AreReachable}
 use Rattle.meaning.specs.Search.{entered, lastSet, answer}
-use Rattle.meaning.specs.Reply.{Lent, proposalRefusal, beforeSearch, decodeRefusal, answerSteps}
+use Rattle.meaning.specs.Reply.{Lent, proposalRefusal, totalsOf, scoreProposal, scoredReply, beforeSearch, decodeRefusal, answerSteps}
 use Rattle.meaning.specs.declared.Step.{Step}
 use Rattle.meaning.specs.declared.Answer.{Answer}
 use Rattle.meaning.specs.declared.Decoded.{Decoded}
 use Rattle.meaning.specs.declared.Decoded.the-variants.{Done, Refused}
 use Rattle.meaning.specs.declared.Scored.{Scored}
-use Rattle.meaning.specs.declared.Scored.the-variants.{Score, Refused as ScoreRefused}
+use Rattle.meaning.specs.declared.Scored.the-variants.{Done as Totalled, Refused as ScoreRefused}
+use Rattle.meaning.specs.declared.Totals.{Totals}
 use Rattle.meaning.specs.declared.Refusal.{Refusal}
 use Rattle.meaning.specs.declared.Refusal.the-variants.{StoreTooSmall, NoDerivation, LastSetEmpty}
 
@@ -76,6 +77,12 @@ module _ (loaded : List ℤ) (direction : List ℕ) (width : ℤ) (steps₀ step
     pub rest-kept : (a : Answer) → result ≡ Done a → (drop (a .steps) steps₁ ≡ drop (a .steps) steps₀) × (drop (a .words) words₁ ≡ drop (a .words) words₀)
     -- ticket 1: "an answer's steps are now determined too"
     pub steps-are : (a : Answer) → result ≡ Done a → take (a .steps) steps₁ ≡ answerSteps (answer book direction width)
+    -- ticket 3: the "four counts in that order, of the target words each supplied", those of the steps; "they add up to all target words"
+    pub supplied-are : (a : Answer) → result ≡ Done a → a .supplied ≡ suppliedOf book (take (a .steps) steps₁)
+    pub supplied-in-all : (a : Answer) → result ≡ Done a → inAll (a .supplied) ≡ a .words
+    -- scoring the steps that were written, by the contract of `score`, reports the same score and the same counts
+    pub scored-again : (a : Answer) → result ≡ Done a → (s : Scored) → scoredReply s ≡ scoreProposal loaded direction (take (a .steps) steps₁)
+        → s ≡ Totalled (record { score = a .score; supplied = a .supplied })
     -- the number of the states entered is reported; with pruning off it is the number of those that the transitions can reach
     pub states-entered : (a : Answer) → result ≡ Done a → a .states ≡ length (entered book direction width)
     pub states-reachable : PruningOff → (a : Answer) → result ≡ Done a → (keys : List Key) → AreReachable book direction keys → a .states ≡ length keys
@@ -132,10 +139,13 @@ module _ (loaded : List ℤ) (direction : List ℕ) (steps : List Step) (result 
   pub record ScoreDemands : Type 0 where
     pub turned-down : (refusal : Refusal) → (proposalRefusal loaded direction steps ≡ number refusal) ↔ (result ≡ ScoreRefused refusal)
     -- what is scored is valid, with its score to the last unit ..
-    pub scored-valid : (z : ℤ) → result ≡ Score z → (isValid book′ direction steps ≡ true) × (scoreOf book′ steps ≡ z)
+    pub scored-valid : (t : Totals) → result ≡ Totalled t → (isValid book′ direction steps ≡ true) × (scoreOf book′ steps ≡ t .score)
     -- .. what is valid is scored, where the book and the direction pass ..
-    pub valid-scored : bookRefusal loaded ≡ 0 → directionRefusal direction ≡ 0 → isValid book′ direction steps ≡ true → result ≡ Score (scoreOf book′ steps)
+    pub valid-scored : bookRefusal loaded ≡ 0 → directionRefusal direction ≡ 0 → isValid book′ direction steps ≡ true → result ≡ Totalled (totalsOf book′ steps)
     -- .. what gets one of 16 to 19 is not valid, and what is not valid gets one of them
     pub refused-invalid : (refusal : Refusal) → result ≡ ScoreRefused refusal → isOfSteps (number refusal) ≡ true → isValid book′ direction steps ≡ false
     pub invalid-refused : bookRefusal loaded ≡ 0 → directionRefusal direction ≡ 0 → isValid book′ direction steps ≡ false
         → (refusal : Refusal) × (result ≡ ScoreRefused refusal) × (isOfSteps (number refusal) ≡ true)
+    -- ticket 3: the four counts are those of the steps' target words, and add up to all of them
+    pub supplied-are : (t : Totals) → result ≡ Totalled t → t .supplied ≡ suppliedOf book′ steps
+    pub supplied-in-all : (t : Totals) → result ≡ Totalled t → inAll (t .supplied) ≡ length (targetWords book′ steps)

@@ -5,8 +5,8 @@ use meaning::Step;
 ghost use mathlib.Core.Path.{_≡_};
 ghost use Rattle.meaning.specs.Reply.{scoredReply, scoreProposal, Decodes};
 
-// "Scoring a proposed list", of any length: questions 2 to 6, 9, 10 and 16 to 19, and the score of the steps where none
-// refuses. The first 33 records decide: of 32 words none is left for the 33rd.
+// "Scoring a proposed list", of any length: questions 2 to 6, 9, 10 and 16 to 19, and where none refuses the score of the steps and the four counts of
+// ticket 3. The first 33 records decide: of 32 words none is left for the 33rd.
 pub fn score(book: &[i32], direction: &[u16], steps: &[Step]) -> Scored
     ensures { λ r. ⌜ scoredReply r ≡ scoreProposal (now (book .entry)) (now (direction .entry)) (now (steps .entry)) ⌝ }
 {
