@@ -4,8 +4,6 @@ use lib.Seq.{set-out}
 use borrow.Author.Needs.{needs}
 use Rattle.lists.proofs.report.put.Statement.{statement}
 use Rattle.lists.proofs.report.put.Tie as tie
-use Rattle.lists.proofs.report.put.Reads as reads
-use Rattle.lists.proofs.report.put.Lts as lts
 
 mul-v : tie.Need-mul-v
 mul-v c = search needs
