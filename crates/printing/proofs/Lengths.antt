@@ -11,6 +11,7 @@ use Rattle.laws.specs.Lists.{concat}
 use Rattle.laws.proofs.Lists.{mem-getD}
 use Rattle.meaning.specs.Questions.{number}
 use Rattle.meaning.specs.Bounds.{wordSpan}
+use Rattle.meaning.specs.Derivation.{inAll}
 use Rattle.meaning.specs.Render.{decimal, printedLine, printedStep, printedRefusal, printedAnswer}
 use Rattle.meaning.specs.Reply.{countsOf}
 use Rattle.meaning.specs.State.{scoreBound}
@@ -43,15 +44,16 @@ score-short (negsuc n) h = omega (arith, ap length (negative n), at-most 8 (suc 
 
 -- ---- lines
 
--- a line of one number, of three and of four
+-- a line of one number, of three and of eight
 line-1-long : (l : ℕ) (a : ℤ) → length (printedLine l (a ∷ [])) ≡ 3 + length (decimal a)
 line-1-long l a = line-long l (a ∷ []) ∙ simp length-append (omega arith)
 
 line-3-long : (l : ℕ) (a b c : ℤ) → length (printedLine l (a ∷ b ∷ c ∷ [])) ≡ 5 + length (decimal a) + length (decimal b) + length (decimal c)
 line-3-long l a b c = line-long l (a ∷ b ∷ c ∷ []) ∙ simp length-append (omega arith)
 
-line-4-long : (l : ℕ) (a b c d : ℤ) → length (printedLine l (a ∷ b ∷ c ∷ d ∷ [])) ≡ 6 + length (decimal a) + length (decimal b) + length (decimal c) + length (decimal d)
-line-4-long l a b c d = line-long l (a ∷ b ∷ c ∷ d ∷ []) ∙ simp length-append (omega arith)
+line-8-long : (l : ℕ) (a b c d e f g h : ℤ) → length (printedLine l (a ∷ b ∷ c ∷ d ∷ e ∷ f ∷ g ∷ h ∷ []))
+    ≡ 10 + length (decimal a) + length (decimal b) + length (decimal c) + length (decimal d) + length (decimal e) + length (decimal f) + length (decimal g) + length (decimal h)
+line-8-long l a b c d e f g h = line-long l (a ∷ b ∷ c ∷ d ∷ e ∷ f ∷ g ∷ h ∷ []) ∙ simp length-append (omega arith)
 
 -- at most 99
 pub refusal-short : (refusal : Refusal) → length (printedRefusal (number refusal)) ≤ 5
@@ -84,15 +86,16 @@ words-short words h =
 
 -- ---- an answer: 32 steps of 20 bytes, 256 words of 6, and the line of its numbers
 
-pub answer-short : (a : Answer) (steps : List Step) (words : List ℕ) → Within scoreBound (a .score) → a .steps ≤ 32 → a .words ≤ 256 → a .states < 2 ^ 64
+pub answer-short : (a : Answer) (steps : List Step) (words : List ℕ) → Within scoreBound (a .score) → a .steps ≤ 32 → a .words ≤ 256 → a .states < 2 ^ 64 → inAll (a .supplied) ≡ a .words
     → length steps ≤ 32 → ((s : Step) → List·Memᴰ s steps → Small s) → length words ≤ 256 → ((w : ℕ) → List·Memᴰ w words → w < wordSpan)
     → length (printedAnswer a steps words) ≤ 4_096
 unfolding printedAnswer
-answer-short a steps words score step-count word-count states few small short fit =
+answer-short a steps words score step-count word-count states in-all few small short fit =
+    let s = a .supplied in
     let counts = printedLine 65 (countsOf a) in
     let lines = concat (map printedStep steps) in
     omega
-    (arith, length-append (counts ++ lines) (printedLine 87 (map pos words)), length-append counts lines, line-4-long 65 (a .score) (pos (a .steps)) (pos (a .words)) (pos (a .states)), score-short (a .score) score, two-digits (a .steps) (omega arith), at-most 2 (a .words) (omega arith), twenty-digits (a .states) states, steps-short steps small, words-short words fit)
+    (arith, length-append (counts ++ lines) (printedLine 87 (map pos words)), length-append counts lines, line-8-long 65 (a .score) (pos (a .steps)) (pos (a .words)) (pos (a .states)) (pos (s .triples)) (pos (s .pairs)) (pos (s .words)) (pos (s .unseen)), score-short (a .score) score, two-digits (a .steps) (omega arith), at-most 2 (a .words) (omega arith), twenty-digits (a .states) states, at-most 2 (s .triples) (omega (arith, in-all)), at-most 2 (s .pairs) (omega (arith, in-all)), at-most 2 (s .words) (omega (arith, in-all)), at-most 2 (s .unseen) (omega (arith, in-all)), steps-short steps small, words-short words fit)
 
 -- steps that stand as plain numbers are of 16-bit numbers where the numbers are
 pub steps-small : (numbers : List ℕ) (count : ℕ) → ((i : ℕ) → getD numbers i 0 < wordSpan) → (s : Step) → List·Memᴰ s (stepsOf (plainOf numbers count)) → Small s

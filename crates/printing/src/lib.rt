@@ -60,13 +60,13 @@ fn put_step(out: &mut [u8], at: usize, step: Step) -> usize
     put_line(out, at, 83, &numbers)
 }
 
-// Puts the line of an answer's numbers: its score, how many steps and target words it has, and how many states were entered.
+// Puts the line of an answer's numbers.
 fn put_counts(out: &mut [u8], at: usize, a: Answer) -> usize
     requires { ⌜ Printable (countsOf a) ⌝ }
     requires { ⌜ at + length (printedLine 65 (countsOf a)) ≤ length (now out) ⌝ }
     ensures { λ r. ⌜ Put (printedLine 65 (countsOf a)) at r (now (out .entry)) (now (out .exit)) ⌝ }
 {
-    let numbers = [a.score, a.steps as i64, a.words as i64, a.states as i64];
+    let numbers = lists::report::numbers_of(a);
     put_line(out, at, 65, &numbers)
 }
 
