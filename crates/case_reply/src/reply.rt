@@ -6,6 +6,8 @@ use meaning::Decoded;
 use meaning::Read;
 use meaning::Refusal;
 use meaning::Scored;
+use meaning::Supplied;
+use meaning::Totals;
 
 // `R,` and the refusal's number.
 fn refused(refusal: Refusal) {
@@ -29,24 +31,42 @@ pub fn checked(reply: Checked) {
     }
 }
 
-// A proposed list's score.
+// A space and a count.
+fn spaced(n: usize) {
+    say::word(b" ");
+    say::count(n);
+}
+
+// How many words were supplied by a triple, a pair, a word and u.
+fn supplied(s: Supplied) {
+    spaced(s.triples);
+    spaced(s.pairs);
+    spaced(s.words);
+    spaced(s.unseen);
+}
+
+// A proposed list's score, and the four counts.
+fn totals(t: Totals) {
+    say::score(t.score);
+    supplied(t.supplied);
+}
+
+// A scoring's answer.
 pub fn scored(reply: Scored) {
     match reply {
-        Scored::Score(z) => say::score(z),
+        Scored::Done(t) => totals(t),
         Scored::Refused(refusal) => refused(refusal),
     }
 }
 
-// `A,`, the score, and how many steps, words and states.
+// `A,`, the score, how many steps, words and states, and the four counts.
 fn answer(a: Answer) {
     say::word(b"A,");
     say::score(a.score);
-    say::word(b" ");
-    say::count(a.steps);
-    say::word(b" ");
-    say::count(a.words);
-    say::word(b" ");
-    say::count(a.states);
+    spaced(a.steps);
+    spaced(a.words);
+    spaced(a.states);
+    supplied(a.supplied);
 }
 
 // A decode's answer.
