@@ -1,7 +1,7 @@
 -- A book without D and U lines is as it was before Ticket 2: every triple scores as in document 01, so every refusal, reply, list and
 -- state of the base is unchanged. What document 01 says of its three kinds of lines stands here once more, as definitions; the
 -- theorems are `base-score`, `base-refusal`, `base-derivation`, `base-search`, for a loaded list `loaded-refusal`,
--- `loaded-scoring` and `loaded-decoding`, and for a text `base-reading`.
+-- `loaded-scoring` and `loaded-decoding`, and for a text `base-reading`. Ticket 3's counts, which document 01 has not, are as in any book (Supplying has more).
 use Prim.Native.Nat.{ℕ, zero, suc, _*_, _/_}
 use native.Mathlib.Omega.{arith}
 use mathlib.Core.Path.{_≡_, refl, ap, _∙_}
@@ -22,7 +22,7 @@ use Rattle.meaning.specs.Questions.{_unless_, _orelse_}
 use Rattle.meaning.specs.Book.{Form, InText, InList, numberAt, naturalAt, wordsAt, Kind, kindB, kindP, kindT, byKindFrom, kindFrom, kindOfByte, kindOfLetter, isTextLine, isBookText, lineNumbers, textLines, loadedOf, readRefusal, isB, isP, isT, isU, isD, sizeOf, isWhole, cutLines, loadedLines, isOneBFirst, isInRange, isNotTooLong, orderOf, gramNumbers, isNoTripleTwice, isNoShorterTwice, linesRefusal, bookRefusal, Gram, Book, gramOf, isGram, bookOfLines, bookOf}
 use Rattle.meaning.specs.Numerals.{linesOf, isEnded, isNumber, valueOf}
 use Rattle.meaning.specs.Direction.{wordCount, directionRefusal}
-use Rattle.meaning.specs.Derivation.{listed, scoreOr, wordScore, pairScore, backedOff, tripleScore, wordsScore, entryAt, jump, jumps, targetWords, scoreOf}
+use Rattle.meaning.specs.Derivation.{listed, scoreOr, wordScore, pairScore, backedOff, tripleScore, wordsScore, entryAt, jump, jumps, targetWords, scoreOf, suppliedOf}
 use Rattle.meaning.specs.State.{Key, Hyp, start, wordsCovered, isEqual, mayExtend, nextKey, gain, isBetter}
 use Rattle.meaning.specs.Search.{isOff, fittingSteps, isWithin, entered, lastSet, answer}
 use Rattle.meaning.specs.Reply.{Reply, reply, writtenIf, clearedIf, Lent, stepsRefusal, proposalRefusal, scoreProposal, beforeSearch, afterSearch, decodeRefusal, decode, answerScore, answerSteps, decodedSteps, decodedWords, decodedStore}
@@ -185,7 +185,7 @@ module _ (gains : Key → Step → ℤ) (book : Book) (direction : List ℕ) (wi
     -- the reply, and what the lent lists hold afterwards
     abbrev pub decodedBy : List Step → List ℕ → List ℤ → Reply Answer × List Step × List ℕ × List ℤ
     decodedBy steps words store = (
-      reply refusalBy (record { score = answerScore answerBy; steps = length (answerSteps answerBy); words = length (targetWords book (answerSteps answerBy)); states = length enteredBy }),
+      reply refusalBy (record { score = answerScore answerBy; steps = length (answerSteps answerBy); words = length (targetWords book (answerSteps answerBy)); states = length enteredBy; supplied = suppliedOf book (answerSteps answerBy) }),
       writtenIf refusalBy (answerSteps answerBy) steps,
       writtenIf refusalBy (targetWords book (answerSteps answerBy)) words,
       clearedIf beforeBy store,
@@ -273,7 +273,7 @@ base-refusal form lines b = let alls = alls-same form lines b in rw (alls .0, al
 -- ════ scores
 
 -- the n-gram of a T line
-abbrev tripleOf : List ℤ → Gram
+abbrev pub tripleOf : List ℤ → Gram
 tripleOf line = record { words = naturalAt line 1 ∷ naturalAt line 2 ∷ naturalAt line 3 ∷ []; s = numberAt line 4; k = pos 0 }
 
 t-gram : (form : Form) (line : List ℤ) → isT line ≡ true → isWhole form line ≡ true → gramOf line ≡ tripleOf line
@@ -293,7 +293,7 @@ t-gram form line t w =
     by (a ∷ b ∷ c ∷ d ∷ f ∷ g ∷ x) e = absurd (omega arith)
 
 -- the n-grams are the triples of the T lines
-grams-are : (form : Form) (lines : List (List ℤ)) → OfBase lines → all (isWhole form) lines ≡ true → map gramOf (keep isGram lines) ≡ map tripleOf (keep isT lines)
+pub grams-are : (form : Form) (lines : List (List ℤ)) → OfBase lines → all (isWhole form) lines ≡ true → map gramOf (keep isGram lines) ≡ map tripleOf (keep isT lines)
 grams-are form [] b w = refl
 grams-are form (line ∷ lines) b w =
     let h = both (isWhole form line) (all (isWhole form) lines) w in
@@ -428,11 +428,11 @@ module _ (loaded : List ℤ) (b : OfBase (loadedLines loaded)) where
       → scoreProposal loaded direction steps
       ≡ reply
       (documentRefusal InList (documentLines loaded) orelse directionRefusal direction orelse stepsRefusal (bookOf loaded) direction (start (wordCount direction)) steps)
-      (derivationBy (documentScore (documentLines loaded)) (bookOf loaded) steps)
+      (record { score = derivationBy (documentScore (documentLines loaded)) (bookOf loaded) steps; supplied = suppliedOf (bookOf loaded) steps })
   unfolding scoreProposal proposalRefusal
   loaded-scoring direction steps =
       rw (score-by (bookOf loaded) steps)
-      (same-reply (λ k triple. reply (k orelse directionRefusal direction orelse stepsRefusal (bookOf loaded) direction (start (wordCount direction)) steps) (derivationBy triple (bookOf loaded) steps)) (λ k s t. refl))
+      (same-reply (λ k triple. reply (k orelse directionRefusal direction orelse stepsRefusal (bookOf loaded) direction (start (wordCount direction)) steps) (record { score = derivationBy triple (bookOf loaded) steps; supplied = suppliedOf (bookOf loaded) steps })) (λ k s t. refl))
 
   -- the reply of a decode, and what each lent list holds afterwards
   pub loaded-decoding : (direction : List ℕ) (width : ℤ) (lent : Lent) (steps : List Step) (words : List ℕ) (store : List ℤ)

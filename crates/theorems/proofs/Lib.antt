@@ -1,2 +1,4 @@
 pub mod Base
 pub mod LineCount
+pub mod Supplying
+pub mod Otherwise
