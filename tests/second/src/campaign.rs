@@ -26,6 +26,12 @@ impl Tally {
     fn meet(&mut self, what: &'static str) {
         *self.met.entry(what).or_default() += 1;
     }
+    /// Meets what supplied the words of an answer, if that is one of the four alone or all of them.
+    fn mixture(&mut self, supplied: Supplied) {
+        if let Some(k) = ways::mixture(supplied) {
+            self.meet(ways::MIXTURES[k]);
+        }
+    }
     /// How often a refusal was met in all calls.
     pub fn refusals(&self) -> BTreeMap<u8, u64> {
         let mut all = BTreeMap::new();
@@ -82,7 +88,7 @@ pub fn run(seed: u64, count: usize) -> Tally {
     tally
 }
 
-/// An answer is what 01 says of it: valid steps, their score, their words.
+/// An answer is what 01 and ticket 3 say of it: valid steps, their score, their words, the four counts.
 fn check_answer(list: &[i32], book: &Book, direction: &[u16], answer: &Answer) {
     assert!(
         plain::valid(book, direction, &answer.steps),
@@ -94,7 +100,11 @@ fn check_answer(list: &[i32], book: &Book, direction: &[u16], answer: &Answer) {
         "{list:?} {direction:?}"
     );
     assert_eq!(plain::words_of(book, &answer.steps), answer.words);
-    assert_eq!(score(list, direction, &answer.steps), Ok(answer.score));
+    let supplied = plain::supplied_of(book, &answer.steps);
+    assert_eq!(supplied, answer.supplied, "{list:?} {direction:?}");
+    assert_eq!(supplied.iter().sum::<usize>(), answer.words.len());
+    let scored = plain::scoring_of(book, &answer.steps);
+    assert_eq!(score(list, direction, &answer.steps), Ok(scored));
     assert!(answer.score.abs() <= BOUND);
 }
 
@@ -151,6 +161,7 @@ fn search_round(rng: &mut Rng, shape: &Shape, tally: &mut Tally) {
             assert_eq!(given, *one, "{list:?} {direction:?}");
             assert_eq!(answer.states, states, "{list:?} {direction:?}");
             check_answer(&list, &book, &direction, answer);
+            tally.mixture(answer.supplied);
         }
         (Err(14), None) => {}
         _ => panic!("{off:?} but {best:?}: {list:?} {direction:?}"),
@@ -161,7 +172,9 @@ fn search_round(rng: &mut Rng, shape: &Shape, tally: &mut Tally) {
         assert_eq!(all.len(), total);
         for (steps, given) in &all {
             assert!(plain::valid(&book, &direction, steps));
-            assert_eq!(score(&list, &direction, steps), Ok(*given));
+            let scored = plain::scoring_of(&book, steps);
+            assert_eq!(scored.score, *given);
+            assert_eq!(score(&list, &direction, steps), Ok(scored));
         }
         let mut steps: Vec<_> = all.iter().map(|x| &x.0).collect();
         steps.sort();
@@ -261,8 +274,9 @@ fn search_round(rng: &mut Rng, shape: &Shape, tally: &mut Tally) {
             match result {
                 Ok(given) => {
                     assert_eq!(code, 0);
-                    assert_eq!(given, plain::score_of(&book, &steps));
-                    assert!(best.is_some_and(|b| given <= b));
+                    assert_eq!(given, plain::scoring_of(&book, &steps));
+                    assert!(best.is_some_and(|b| given.score <= b));
+                    tally.mixture(given.supplied);
                 }
                 Err(given) => assert_eq!(given, code, "{list:?} {direction:?} {steps:?}"),
             }
@@ -272,7 +286,7 @@ fn search_round(rng: &mut Rng, shape: &Shape, tally: &mut Tally) {
     let result = score(&list, &direction, &steps);
     tally.reply("score, anything", &result);
     match plain::proposal_verdict(&book, &direction, &steps) {
-        0 => assert_eq!(result, Ok(plain::score_of(&book, &steps))),
+        0 => assert_eq!(result, Ok(plain::scoring_of(&book, &steps))),
         code => assert_eq!(result, Err(code), "{list:?} {direction:?} {steps:?}"),
     }
 }
@@ -478,7 +492,9 @@ fn reading_round(rng: &mut Rng, shape: &Shape, tally: &mut Tally, large: bool) {
     } else {
         let list = read_book(&book_text, book_text.len()).unwrap();
         let words = read_direction(&direction_text, 32).unwrap();
-        decode(&list, &words, -1, 32, 256, 4096)
+        let result = decode(&list, &words, -1, 32, 256, 4096);
+        check_plainly(&list, &words, -1, 4096, &result);
+        result
     };
     tally.reply("render", &expected);
     assert_eq!(printed, reply(&expected));

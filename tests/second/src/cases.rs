@@ -5,7 +5,7 @@
 
 use crate::gen::DecodeCase;
 use crate::ways::Ways;
-use crate::{plain, Answer, Step};
+use crate::{plain, Answer, Scoring, Step, Supplied};
 use std::fmt::{Display, Write};
 use std::str::{FromStr, SplitWhitespace};
 
@@ -140,7 +140,7 @@ pub struct Said {
     pub text: String,
     /// Several derivations have a decode's score, the best of all (looked for where there are few derivations).
     pub shared: bool,
-    /// How the target words of a successful scoring or decode were scored.
+    /// How the target words of a successful scoring or decode were scored, to which its four counts are held.
     pub ways: Ways,
 }
 
@@ -205,6 +205,11 @@ fn target_words(book: &[i32], entry: usize) -> Said {
     said("target_words", &Ok(()), format!("N,{size}{row}"))
 }
 
+/// The four counts as they are printed.
+fn four_text(supplied: Supplied) -> String {
+    supplied.iter().map(|count| format!(" N,{count}")).collect()
+}
+
 /// After 13, 14, 15 and success the store is all zero; after the other refusals no lent list is changed.
 fn decoded(case: &DecodeCase, fill: u16, reply: &Result<Answer, u8>) -> Said {
     let (head, zeros, steps, words): (_, _, &[Step], &[u16]) = match reply {
@@ -212,7 +217,8 @@ fn decoded(case: &DecodeCase, fill: u16, reply: &Result<Answer, u8>) -> Said {
         Err(k) => (format!("R,{k}"), 0, &[], &[]),
         Ok(a) => {
             let (s, w) = (a.steps.len(), a.words.len());
-            let head = format!("A,{} N,{s} N,{w} N,{}", a.score, a.states);
+            let four = four_text(a.supplied);
+            let head = format!("A,{} N,{s} N,{w} N,{}{four}", a.score, a.states);
             (head, case.store_len, &a.steps, &a.words)
         }
     };
@@ -227,7 +233,10 @@ fn decoded(case: &DecodeCase, fill: u16, reply: &Result<Answer, u8>) -> Said {
         + &lent("steps", &over(steps, &no_steps), &no_steps)
         + &lent("words", &over(words, &no_words), &no_words)
         + &lent("store", &over(vec![0; zeros], &full), &full);
-    let of = |a: &Answer| (shared(case, a.score), Ways::of(&case.book, &a.steps));
+    let of = |a: &Answer| {
+        let ways = Ways::of(&case.book, &a.steps, a.supplied);
+        (shared(case, a.score), ways)
+    };
     let (shared, ways) = reply.as_ref().map_or_else(|_| Default::default(), of);
     Said {
         shared,
@@ -237,10 +246,10 @@ fn decoded(case: &DecodeCase, fill: u16, reply: &Result<Answer, u8>) -> Said {
 }
 
 /// A scoring against the plain walk, from question 16 on.
-fn score_plainly(book: &[i32], direction: &[u16], steps: &[Step], reply: Result<i64, u8>) {
+fn score_plainly(book: &[i32], direction: &[u16], steps: &[Step], reply: Result<Scoring, u8>) {
     if let (Ok(book), Ok(())) = (crate::check_book(book), crate::check_direction(direction)) {
         let plainly = match plain::proposal_verdict(&book, direction, steps) {
-            0 => Ok(plain::score_of(&book, steps)),
+            0 => Ok(plain::scoring_of(&book, steps)),
             code => Err(code),
         };
         assert_eq!(reply, plainly);
@@ -252,8 +261,12 @@ fn scored(case: &mut Case) -> Said {
     let steps = case.steps();
     let reply = crate::score(&book, &direction, &steps);
     score_plainly(&book, &direction, &steps, reply);
-    let text = reply.map_or_else(|k| format!("R,{k}"), |z| z.to_string());
-    let ways = reply.map_or_else(|_| Ways::default(), |_| Ways::of(&book, &steps));
+    let text = reply.map_or_else(
+        |k| format!("R,{k}"),
+        |s| format!("{}{}", s.score, four_text(s.supplied)),
+    );
+    let of = |s: Scoring| Ways::of(&book, &steps, s.supplied);
+    let ways = reply.map_or_else(|_| Ways::default(), of);
     Said {
         ways,
         ..said("score", &reply, text)

@@ -1,4 +1,4 @@
-//! A second decoder, written from the papers alone (01-scope.md, tickets 1 and 2 of
+//! A second decoder, written from the papers alone (01-scope.md, tickets 1 to 3 of
 //! 02-change-requests.md, and Collins' notes 000, 001, 002). Standard library only. Refusals are the
 //! question numbers of 01 and 02.
 
@@ -139,20 +139,60 @@ impl Book {
     }
 }
 
+/// "four counts in that order, of the target words each supplied": triple, pair, word, u.
+pub type Supplied = [usize; 4];
+
+impl Book {
+    /// "whether triple, pair, word or u supplied the final score" of a triple, as a place among the
+    /// four. A weight that is added on the way supplies nothing.
+    fn supplier(&self, v: u16, w: u16, y: u16) -> usize {
+        if self.triple_scores.contains_key(&(v, w, y)) {
+            0
+        } else if self.listed_pairs.contains_key(&(w, y)) {
+            1
+        } else if self.listed_words.contains_key(&y) {
+            2
+        } else {
+            3
+        }
+    }
+
+    /// The four counts of all target words of a derivation.
+    fn supplied(&self, words: &[u16]) -> Supplied {
+        let mut counts = [0; 4];
+        let (mut v, mut w) = (0, 0);
+        for &y in words {
+            counts[self.supplier(v, w, y)] += 1;
+            (v, w) = (w, y);
+        }
+        counts
+    }
+}
+
+/// What a successful scoring reports.
+#[derive(Clone, Copy, Debug, PartialEq, Eq)]
+pub struct Scoring {
+    pub score: i64,
+    pub supplied: Supplied,
+}
+
 /// The answer of a decoding.
 #[derive(Clone, Debug, PartialEq, Eq)]
 pub struct Answer {
     pub score: i64,
     pub states: usize,
+    pub supplied: Supplied,
     pub steps: Vec<Step>,
     pub words: Vec<u16>,
 }
 
 impl Answer {
-    /// The A line: score, steps, words, states.
+    /// The A line: score, steps, words, states, and the four counts.
     pub fn counts(&self) -> String {
         let (steps, words) = (self.steps.len(), self.words.len());
-        format!("A,{},{steps},{words},{}", self.score, self.states)
+        let [triple, pair, word, u] = self.supplied;
+        let (score, states) = (self.score, self.states);
+        format!("A,{score},{steps},{words},{states},{triple},{pair},{word},{u}")
     }
 }
 
@@ -378,8 +418,8 @@ pub fn check_direction(direction: &[u16]) -> Result<(), u8> {
 // Scoring a proposed list
 // ---------------------------------------------------------------------------------------------
 
-/// Questions 2 to 6, 20, 9, 10, then 16 to 19; the score of the proposed steps.
-pub fn score(book: &[i32], direction: &[u16], steps: &[Step]) -> Result<i64, u8> {
+/// Questions 2 to 6, 20, 9, 10, then 16 to 19; the score of the proposed steps, and the four counts.
+pub fn score(book: &[i32], direction: &[u16], steps: &[Step]) -> Result<Scoring, u8> {
     let book = check_book(book)?;
     check_direction(direction)?;
     let n = direction.len();
@@ -387,6 +427,7 @@ pub fn score(book: &[i32], direction: &[u16], steps: &[Step]) -> Result<i64, u8>
     let mut r = 0i64;
     let (mut v, mut w) = (0u16, 0u16);
     let mut total = 0i64;
+    let mut supplied = [0; 4];
     for &(first, last, entry) in steps {
         let (first, last, entry) = (first as usize, last as usize, entry as usize);
         if entry < 1 || entry > book.phrases.len() || first < 1 || last < first || last > n {
@@ -409,13 +450,17 @@ pub fn score(book: &[i32], direction: &[u16], steps: &[Step]) -> Result<i64, u8>
         total += phrase.g as i64 + book.eta as i64 * jump;
         for &y in phrase.target() {
             total += book.triple_score(v, w, y);
+            supplied[book.supplier(v, w, y)] += 1;
             (v, w) = (w, y);
         }
     }
     if covered != span_mask(1, n) {
         return Err(19);
     }
-    Ok(total)
+    Ok(Scoring {
+        score: total,
+        supplied,
+    })
 }
 
 /// Bits first - 1 to last - 1; 1 <= first <= last <= 32.
@@ -614,13 +659,14 @@ pub fn search(book: &Book, direction: &[u16], width: i64, room: usize) -> Result
         q = q.way.from(&sets);
     }
     steps.reverse();
-    let words = steps
+    let words: Vec<u16> = steps
         .iter()
         .flat_map(|&(_, _, entry)| book.phrases[entry as usize - 1].target().iter().copied())
         .collect();
     Ok(Answer {
         score,
         states: entered,
+        supplied: book.supplied(&words),
         steps,
         words,
     })

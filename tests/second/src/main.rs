@@ -6,7 +6,7 @@ const BOOK: &str = "B,2,-10,-500\nP,1,1,11,101,-20\nP,1,1,12,102,-30\n\
 P,2,2,11,12,102,101,-70\nT,0,0,101,-40\nT,0,101,102,-60\nT,0,0,102,-15\nT,0,102,101,-25\n";
 
 const USAGE: &str = "second decode BOOKFILE DIRECTIONFILE WIDTH STATES
-second score BOOKFILE DIRECTIONFILE FIRST,LAST,ENTRY ...
+second score BOOKFILE DIRECTIONFILE FIRST,LAST,ENTRY ...  the score and the four counts
 second list BOOKFILE DIRECTIONFILE          every valid derivation, best first, of equal score the first in order
 second load BOOKFILE                        the loaded list
 second words BOOKFILE ENTRY                 an entry's target words
@@ -31,7 +31,7 @@ fn main() {
             let steps: Vec<Step> = steps.iter().map(|s| step(s)).collect();
             let result = read_both(book, direction)
                 .and_then(|(book, direction)| score(&book, &direction, &steps));
-            plain_reply(result.map(|s| s.to_string()))
+            scoring_reply(result)
         }
         ["list", book, direction] => {
             let result = read_both(book, direction)
@@ -137,6 +137,10 @@ fn plain_reply(result: Result<String, u8>) -> Vec<u8> {
     .into_bytes()
 }
 
+fn scoring_reply(result: Result<Scoring, u8>) -> Vec<u8> {
+    plain_reply(result.map(|s| format!("{},{}", s.score, row(&s.supplied))))
+}
+
 fn row<T: ToString>(numbers: &[T]) -> String {
     numbers
         .iter()
@@ -180,7 +184,7 @@ fn drawers() -> String {
     add('j', BOOK, &[], -1, 512);
     add('k', BOOK, &direction, -2, 512);
     let book = read_book(BOOK.as_bytes(), usize::MAX).unwrap();
-    let scored = plain_reply(score(&book, &direction, &[]).map(|s| s.to_string()));
+    let scored = scoring_reply(score(&book, &direction, &[]));
     out.push_str(&format!("l {}", String::from_utf8(scored).unwrap()));
     out
 }

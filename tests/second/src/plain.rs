@@ -1,7 +1,7 @@
 //! The same matters as plainly as the papers put them, for checking: nothing here is shared with
 //! the search by sets but the record types of the book and of the answer.
 
-use crate::{check_book, check_direction, Answer, Book, Listed, Step};
+use crate::{check_book, check_direction, Answer, Book, Listed, Scoring, Step, Supplied};
 use std::collections::{BTreeSet, VecDeque};
 
 /// The D line of a pair, by looking through them.
@@ -98,6 +98,33 @@ pub fn score_of(book: &Book, steps: &[Step]) -> i64 {
         total += triple(book, row[k - 2], row[k - 1], row[k]);
     }
     total
+}
+
+/// Of the target words of a derivation, how many a T line, a D line, a U line and u supplied with
+/// their final score: each kind of line in turn takes the words that it lists from those left.
+pub fn supplied_of(book: &Book, steps: &[Step]) -> Supplied {
+    let row = [vec![0, 0], words_of(book, steps)].concat();
+    let mut left: Vec<usize> = (2..row.len()).collect();
+    let mut take = |lists: &dyn Fn(usize) -> bool| {
+        let before = left.len();
+        left.retain(|&k| !lists(k));
+        before - left.len()
+    };
+    let triples = take(&|k| {
+        let mut lines = book.triples.iter();
+        lines.any(|t| row[k - 2..=k] == [t.v, t.w, t.y])
+    });
+    let pairs = take(&|k| book.pairs.iter().any(|d| row[k - 1..=k] == [d.w, d.y]));
+    let words = take(&|k| book.words.iter().any(|u| row[k] == u.y));
+    [triples, pairs, words, left.len()]
+}
+
+/// What a scoring of a valid derivation reports.
+pub fn scoring_of(book: &Book, steps: &[Step]) -> Scoring {
+    Scoring {
+        score: score_of(book, steps),
+        supplied: supplied_of(book, steps),
+    }
 }
 
 /// Every step that fits at all.
@@ -318,12 +345,12 @@ pub fn answer(book: &Book, direction: &[u16], width: i64, room: usize) -> Result
         return Err(13);
     }
     let (score, steps) = best.ok_or(if width == -1 { 14 } else { 15 })?;
-    let words = words_of(book, &steps);
     Ok(Answer {
         score,
         states,
+        supplied: supplied_of(book, &steps),
+        words: words_of(book, &steps),
         steps,
-        words,
     })
 }
 

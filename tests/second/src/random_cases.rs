@@ -3,7 +3,7 @@
 use crate::cases::{self, BOOK, DIRECTION, LINE, READ, RENDERED, STEPS, STORE, TEXT, WORDS};
 use crate::gen::{self, DecodeCase, Rng, Shape};
 use crate::rounds::{self, Calls, Tally};
-use crate::ways::{self, Ways};
+use crate::ways::Ways;
 use crate::Step;
 use std::fmt::Display;
 
@@ -150,7 +150,7 @@ const REACHED: [(&str, &[u8]); 2] = [
 ];
 
 /// What was met too seldom, in a sentence: an answer of the calls with step records, fewer than `least` times, or a way in which a triple
-/// is scored.
+/// is scored, or a mixture of suppliers.
 fn seldom(tally: &Tally, ways: &Ways, least: u64) -> Result<(), String> {
     for (call, codes) in REACHED {
         for &code in codes {
@@ -162,12 +162,8 @@ fn seldom(tally: &Tally, ways: &Ways, least: u64) -> Result<(), String> {
             }
         }
     }
-    match &ways.rare()[..] {
-        rare @ [_, ..] if least > 0 => Err(format!(
-            "met fewer than {} times: {}",
-            ways::LEAST,
-            rare.join(", ")
-        )),
+    match ways.seldom() {
+        Some(said) if least > 0 => Err(said),
         _ => Ok(()),
     }
 }

@@ -1,7 +1,8 @@
 //! The ways in which a triple comes by its score (ticket 2 of 02), and how often each was met: of the target words of every successful
-//! scoring and decode. A weight counts where it is not 0: one that is 0 shows nothing.
+//! scoring and decode. A weight counts where it is not 0: one that is 0 shows nothing. And how often an answer had one supplier alone, or
+//! all four (ticket 3).
 
-use crate::{check_book, plain, Book, Step};
+use crate::{check_book, plain, Book, Step, Supplied};
 
 pub const WAYS: [&str; 7] = [
     "a T line",
@@ -13,12 +14,26 @@ pub const WAYS: [&str; 7] = [
     "weights and u",
 ];
 
+/// What supplied the target words of an answer of several words, where that is one of the four alone, or all of them.
+pub const MIXTURES: [&str; 5] = [
+    "triples alone",
+    "pairs alone",
+    "words alone",
+    "u alone",
+    "all four",
+];
+
 /// Each way has to be met so often, where a run asks for its refusals too.
 pub const LEAST: u64 = 100;
+/// And so often each mixture.
+pub const LEAST_ANSWERS: u64 = 20;
 
-/// How often each way was met.
+/// How often each way was met, in target words, and each mixture, in answers.
 #[derive(Clone, Copy, Debug, Default, PartialEq, Eq)]
-pub struct Ways(pub [u64; 7]);
+pub struct Ways {
+    pub words: [u64; 7],
+    pub answers: [u64; 5],
+}
 
 /// The way of a triple, as a place in WAYS.
 pub fn way(book: &Book, v: u16, w: u16, y: u16) -> usize {
@@ -37,36 +52,71 @@ pub fn way(book: &Book, v: u16, w: u16, y: u16) -> usize {
     }
 }
 
+/// The mixture that four counts show, as a place in MIXTURES.
+pub fn mixture(supplied: Supplied) -> Option<usize> {
+    let met: Vec<usize> = (0..4).filter(|&k| supplied[k] > 0).collect();
+    match met[..] {
+        [k] if supplied[k] > 1 => Some(k),
+        [_, _, _, _] => Some(4),
+        _ => None,
+    }
+}
+
+/// Names with their counts, as a row.
+fn row(names: &[&str], counts: &[u64]) -> String {
+    let row = names.iter().zip(counts);
+    let row: Vec<String> = row.map(|(name, n)| format!("{name} {n}")).collect();
+    row.join(", ")
+}
+
+/// What was met fewer times than `least`, in a sentence.
+fn below(names: &[&str], counts: &[u64], least: u64) -> Option<String> {
+    let row = names.iter().zip(counts).filter(|(_, n)| **n < least);
+    let rare: Vec<&str> = row.map(|(name, _)| *name).collect();
+    (!rare.is_empty()).then(|| format!("met fewer than {least} times: {}", rare.join(", ")))
+}
+
 impl Ways {
-    /// Those of a list of steps, with a loaded book of which the answer says that it is good.
-    pub fn of(list: &[i32], steps: &[Step]) -> Ways {
+    /// Those of a success: its steps, with a loaded book of which the answer says that it is good. The four counts that it reported are
+    /// held to them.
+    pub fn of(list: &[i32], steps: &[Step], supplied: Supplied) -> Ways {
         let book = check_book(list).expect("a good book");
         let mut ways = Ways::default();
         let mut row = vec![0, 0];
         row.extend(plain::words_of(&book, steps));
         for three in row.windows(3) {
-            ways.0[way(&book, three[0], three[1], three[2])] += 1;
+            ways.words[way(&book, three[0], three[1], three[2])] += 1;
+        }
+        assert_eq!(supplied, ways.supplied(), "{list:?} {steps:?}");
+        if let Some(k) = mixture(supplied) {
+            ways.answers[k] += 1;
         }
         ways
     }
 
+    /// The target words by what supplied them, with weights or without.
+    fn supplied(&self) -> Supplied {
+        let [t, d, weight_d, u, weights_u, unseen, weights_unseen] = self.words;
+        let four = [t, d + weight_d, u + weights_u, unseen + weights_unseen];
+        four.map(|n| n as usize)
+    }
+
     pub fn add(&mut self, more: Ways) {
-        for (sum, times) in self.0.iter_mut().zip(more.0) {
+        let sums = self.words.iter_mut().chain(&mut self.answers);
+        for (sum, times) in sums.zip(more.words.iter().chain(&more.answers)) {
             *sum += times;
         }
     }
 
     pub fn print(&self) {
-        let row = WAYS.iter().zip(self.0);
-        let row: Vec<String> = row.map(|(way, n)| format!("{way} {n}")).collect();
-        println!("target words scored by: {}", row.join(", "));
+        println!("target words scored by: {}", row(&WAYS, &self.words));
+        let answers = row(&MIXTURES, &self.answers);
+        println!("answers of several words supplied by: {answers}");
     }
 
-    /// The ways that were met too seldom.
-    pub fn rare(&self) -> Vec<&'static str> {
-        let row = WAYS.iter().zip(self.0);
-        row.filter(|(_, n)| *n < LEAST)
-            .map(|(way, _)| *way)
-            .collect()
+    /// A way or a mixture that was met too seldom, in a sentence.
+    pub fn seldom(&self) -> Option<String> {
+        let words = below(&WAYS, &self.words, LEAST);
+        words.or_else(|| below(&MIXTURES, &self.answers, LEAST_ANSWERS))
     }
 }

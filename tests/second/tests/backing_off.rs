@@ -1,6 +1,6 @@
 //! Ticket 2 of 02: the score of a triple without a T line, by hand.
 
-use second::ways::{way, Ways, LEAST, WAYS};
+use second::ways::{way, Ways, LEAST, LEAST_ANSWERS, MIXTURES, WAYS};
 use second::*;
 
 /// Every score and weight a different power of two.
@@ -24,13 +24,14 @@ fn scored(text: &str, direction: &[u16]) -> (i64, &'static str) {
     let book = check_book(&list).unwrap();
     let steps: Vec<Step> = (1..).zip(direction).map(|(k, x)| (k, k, x - 10)).collect();
     let given = score(&list, direction, &steps).expect("a derivation");
-    assert_eq!(given, plain::score_of(&book, &steps));
+    assert_eq!(given, plain::scoring_of(&book, &steps));
     let answer = decode(&list, direction, -1, 32, 256, 8_000).unwrap();
-    assert_eq!((answer.score, answer.steps.clone()), (given, steps));
+    assert_eq!((answer.score, answer.steps), (given.score, steps));
+    assert_eq!(answer.supplied, given.supplied);
     let mut row = vec![0, 0];
     row.extend(answer.words);
     let last = &row[row.len() - 3..];
-    (given, WAYS[way(&book, last[0], last[1], last[2])])
+    (given.score, WAYS[way(&book, last[0], last[1], last[2])])
 }
 
 #[test]
@@ -92,9 +93,9 @@ fn scores_at_the_ends() {
         let said = |list: &[i32]| {
             let book = check_book(list).unwrap();
             let given = score(list, &direction, &steps).unwrap();
-            assert_eq!(given, plain::score_of(&book, &steps));
-            assert!(given.abs() <= BOUND);
-            given / s as i64
+            assert_eq!(given, plain::scoring_of(&book, &steps));
+            assert!(given.score.abs() <= BOUND);
+            given.score / s as i64
         };
         // No pair: each word a weight and a score.
         assert_eq!(said(&list), 32 + 2 * 256);
@@ -110,12 +111,21 @@ fn scores_at_the_ends() {
 }
 
 #[test]
-fn a_way_met_too_seldom() {
-    let enough = Ways([LEAST; 7]);
-    assert!(enough.rare().is_empty());
+fn a_way_or_mixture_met_too_seldom() {
+    let enough = Ways {
+        words: [LEAST; 7],
+        answers: [LEAST_ANSWERS; 5],
+    };
+    let said = |least: u64, name: &str| Some(format!("met fewer than {least} times: {name}"));
+    assert_eq!(enough.seldom(), None);
     for (k, name) in WAYS.iter().enumerate() {
         let mut ways = enough;
-        ways.0[k] -= 1;
-        assert_eq!(ways.rare(), [*name]);
+        ways.words[k] -= 1;
+        assert_eq!(ways.seldom(), said(LEAST, name));
+    }
+    for (k, name) in MIXTURES.iter().enumerate() {
+        let mut ways = enough;
+        ways.answers[k] -= 1;
+        assert_eq!(ways.seldom(), said(LEAST_ANSWERS, name));
     }
 }

@@ -11,6 +11,12 @@ fn chain(n: usize, d: i32) -> (Vec<i32>, Vec<u16>) {
     (list, (1..=n as u16).collect())
 }
 
+/// What a scoring reports of a book without T, D and U lines: u supplied each of so many words.
+fn by_u(score: i64, words: usize) -> Result<Scoring, u8> {
+    let supplied = [0, 0, 0, words];
+    Ok(Scoring { score, supplied })
+}
+
 #[test]
 fn words_32_and_33() {
     let (list, direction) = chain(33, 0);
@@ -87,7 +93,7 @@ fn jump_of_d_and_one_more() {
         }
     }
     // Backwards: 2 then 1 is a jump of 2.
-    for (d, expected) in [(1, Err(18)), (2, Ok(-2 - 2 - 3 - 3 - 1 - 2))] {
+    for (d, expected) in [(1, Err(18)), (2, by_u(-2 - 2 - 3 - 3 - 1 - 2, 2))] {
         let (list, direction) = chain(2, d);
         assert_eq!(score(&list, &direction, &[(2, 2, 2), (1, 1, 1)]), expected);
     }
@@ -95,7 +101,7 @@ fn jump_of_d_and_one_more() {
     let (list, direction) = chain(32, 32);
     let mut steps: Vec<Step> = vec![(32, 32, 32)];
     steps.extend((1..32).map(|k| (k, k, k)));
-    assert_eq!(score(&list, &direction, &steps), Ok(-160 - 31 - 32));
+    assert_eq!(score(&list, &direction, &steps), by_u(-160 - 31 - 32, 32));
     let (list, direction) = chain(32, 31);
     assert_eq!(score(&list, &direction, &steps), Err(18));
 }
@@ -278,6 +284,7 @@ fn scores_at_their_bound() {
         list.extend([2, 1, 8, 5, 1, 1, 1, 1, 1, 1, 1, 1, s]);
         let direction = [5u16; 32];
         let steps: Vec<Step> = (1..=32).map(|k| (k, k, 1)).collect();
-        assert_eq!(score(&list, &direction, &steps), Ok(32 * 9 * s as i64));
+        let expected = by_u(32 * 9 * s as i64, 256);
+        assert_eq!(score(&list, &direction, &steps), expected);
     }
 }

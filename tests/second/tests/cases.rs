@@ -6,7 +6,8 @@ use second::random_cases::hold;
 /// Entries 1 and 2 are equal, entry 3 scores less, and entry 4 does not fit.
 const TIE: &str = "tie|6 28 1 0 0 0 2 1 1 11 101 -20 2 1 1 11 101 -20 2 1 1 11 101 -30 2 1 1 12 101 -20 1 11 -1 1 8 16 500";
 
-const PRINTED: &str = "tie: A,-20 N,1 N,1 N,2 steps 1.1.1 ~1099 words 101 ~1999 store 0*16 ~32984";
+const PRINTED: &str =
+    "tie: A,-20 N,1 N,1 N,2 N,0 N,0 N,0 N,1 steps 1.1.1 ~1099 words 101 ~1999 store 0*16 ~32984";
 
 #[test]
 fn of_equal_entries_the_lower() {
@@ -30,6 +31,10 @@ fn any_other_line_is_refused() {
         ("~1999", "101 ~1998"),
         ("A,-20", "A,-30"),
         ("N,1 N,1 N,2", "N,1 N,1 N,3"),
+        ("N,0 N,0 N,0 N,1", "N,0 N,0 N,1 N,0"),
+        ("N,0 N,0 N,0 N,1", "N,1 N,0 N,0 N,0"),
+        ("N,0 N,0 N,0 N,1", "N,0 N,0 N,0 N,0"),
+        (" N,0 N,0 N,0 N,1", ""),
         ("0*16 ~32984", "0*15 ~32985"),
         ("steps", "step"),
     ] {

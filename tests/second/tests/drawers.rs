@@ -40,7 +40,7 @@ fn run(book: &[i32], width: i64, store: usize) -> Result<Answer, u8> {
 fn printed_example() {
     assert_eq!(
         render(BOOK.as_bytes(), b"11,12\n"),
-        b"A,-110,1,2,6\nS,1,2,3\nW,102,101\n"
+        b"A,-110,1,2,6,2,0,0,0\nS,1,2,3\nW,102,101\n"
     );
     assert_eq!(render(b"", b"11,12\n"), b"R,1\n");
     assert_eq!(render(b"", b""), b"R,1\n");

@@ -2,6 +2,7 @@
 //! walked, and some forty damaged or bordering ones. The tally is printed with --nocapture.
 
 use second::campaign;
+use second::ways::MIXTURES;
 
 fn rounds(seed: u64) {
     let tally = campaign::run(seed, 12_500);
@@ -16,6 +17,9 @@ fn rounds(seed: u64) {
     assert!(tally.met["widths that lost the best derivation"] > 100);
     assert!(tally.met["widths that lost the first of the top score"] > 100);
     assert!(tally.met["widths that emptied the last set"] > 100);
+    for name in MIXTURES {
+        assert!(tally.met[name] > 100, "{name} met too seldom");
+    }
 }
 
 #[test]
