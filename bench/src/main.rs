@@ -40,7 +40,7 @@ struct Lent {
     steps: [u16; 3 * 32],
     words: [u16; 8 * 32],
     store: Vec<i64>,
-    report: [i64; 4],
+    report: [i64; 8],
 }
 
 impl Lent {
@@ -49,7 +49,7 @@ impl Lent {
             steps: [0; 3 * 32],
             words: [0; 8 * 32],
             store: vec![0; 8 * places],
-            report: [0; 4],
+            report: [0; 8],
         }
     }
     fn decode(&mut self, book: &[i32], direction: &[u16], width: i64) -> i32 {
@@ -65,11 +65,12 @@ impl Lent {
     }
     /// The answer that a decode left in the lists.
     fn answer(&self) -> second::Answer {
-        let [score, steps, words, states] = self.report;
+        let [score, steps, words, states, supplied @ ..] = self.report;
         let steps = self.steps.chunks(3).take(steps as usize);
         second::Answer {
             score,
             states: states as usize,
+            supplied: supplied.map(|count| count as usize),
             steps: steps.map(|s| (s[0], s[1], s[2])).collect(),
             words: self.words[..words as usize].to_vec(),
         }

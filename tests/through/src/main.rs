@@ -1,15 +1,15 @@
 //! Random inputs, good and broken, to every call of the library, each answer held to the second decoder's. Every lent list is
 //! full of garbage before a call and is compared whole afterwards. `through SEED INPUTS [LEAST]`: LEAST is how often each
-//! refusal must have been met at the end; where it is not 0, each way in which a triple is scored must have been met too
-//! (`second::ways`). It stops at the first difference.
+//! refusal must have been met at the end; where it is not 0, each way in which a triple is scored, and each of the four suppliers alone
+//! and all of them together in an answer, must have been met too (`second::ways`). It stops at the first difference.
 
 #[path = "../../../include/phrase.rs"]
 mod library;
 
 use second::gen::{self, Rng};
 use second::rounds::{self, Calls, Tally};
-use second::ways::{self, Ways};
-use second::Step;
+use second::ways::Ways;
+use second::{Step, Supplied};
 
 /// The lists that a decode is lent to write to.
 #[derive(Clone)]
@@ -60,16 +60,23 @@ fn check_reading<T: Copy + PartialEq + std::fmt::Debug>(
     tally.count(call, expected.err().unwrap_or(0));
 }
 
+/// The report of a success: what comes first, and then the four counts.
+fn report(first: &[i64], supplied: Supplied, before: &[i64]) -> Vec<i64> {
+    let four = supplied.map(|count| count as i64);
+    over(&[first, &four].concat(), before)
+}
+
 /// The answer, its steps and its words stand in the lists, and what lies beyond them is as before.
 fn check_answer(case: &gen::DecodeCase, answer: &second::Answer, before: &Lent, after: &Lent) {
-    let report = [
+    let first = [
         answer.score,
         answer.steps.len() as i64,
         answer.words.len() as i64,
         answer.states as i64,
     ];
+    let meant = report(&first, answer.supplied, &before.report);
     let steps = flat(&answer.steps);
-    assert_eq!(after.report, over(&report, &before.report), "{case:?}");
+    assert_eq!(after.report, meant, "{case:?}");
     assert_eq!(after.steps, over(&steps, &before.steps), "{case:?}");
     assert_eq!(after.words, over(&answer.words, &before.words), "{case:?}");
 }
@@ -126,14 +133,14 @@ impl Calls for Library {
         let mut numbers = flat(steps);
         let left_over = rng.below(3);
         numbers.extend(garbage16(rng, left_over));
-        let places = rng.below(4);
+        let places = rng.below(8);
         let before = garbage64(rng, places);
-        let mut report = before.clone();
-        let reply = library::score(book, direction, &numbers, &mut report);
+        let mut given = before.clone();
+        let reply = library::score(book, direction, &numbers, &mut given);
         let (expected, after) = match second::score(book, direction, steps) {
-            Ok(score) => {
-                self.1.add(Ways::of(book, steps));
-                (0, over(&[score], &before))
+            Ok(scored) => {
+                self.1.add(Ways::of(book, steps, scored.supplied));
+                (0, report(&[scored.score], scored.supplied, &before))
             }
             Err(code) => (code, before),
         };
@@ -141,11 +148,11 @@ impl Calls for Library {
             reply, expected as i32,
             "score {book:?} {direction:?} {steps:?}"
         );
-        assert_eq!(report, after, "score {book:?} {direction:?} {steps:?}");
+        assert_eq!(given, after, "score {book:?} {direction:?} {steps:?}");
         self.0.count("score", expected);
     }
     fn decode(&mut self, rng: &mut Rng, case: &gen::DecodeCase) {
-        let (left_over, places) = (rng.below(3), rng.below(6));
+        let (left_over, places) = (rng.below(3), rng.below(11));
         let before = Lent {
             steps: garbage16(rng, 3 * case.steps_len + left_over),
             words: garbage16(rng, case.words_len),
@@ -175,7 +182,8 @@ impl Calls for Library {
         match &expected {
             Ok(answer) => {
                 check_answer(case, answer, &before, &after);
-                self.1.add(Ways::of(&case.book, &answer.steps));
+                let ways = Ways::of(&case.book, &answer.steps, answer.supplied);
+                self.1.add(ways);
             }
             Err(_) => {
                 assert_eq!(after.steps, before.steps, "{case:?}");
@@ -220,10 +228,8 @@ fn seldom(tally: &Tally, ways: &Ways, least: u64) -> String {
     if !rare.is_empty() {
         return format!("met fewer than {least} times: {rare:?}");
     }
-    match &ways.rare()[..] {
-        rare @ [_, ..] if least > 0 => {
-            format!("met fewer than {} times: {}", ways::LEAST, rare.join(", "))
-        }
+    match ways.seldom() {
+        Some(said) if least > 0 => said,
         _ => String::new(),
     }
 }
