@@ -88,23 +88,25 @@ pub fn run(seed: u64, count: usize) -> Tally {
     tally
 }
 
-/// An answer is what 01 and ticket 3 say of it: valid steps, their score, their words, the four counts.
+/// An answer is what 01 and ticket 3 of 02 say of it: valid steps, their score, their words, and four counts that add up to these.
 fn check_answer(list: &[i32], book: &Book, direction: &[u16], answer: &Answer) {
     assert!(
         plain::valid(book, direction, &answer.steps),
         "{list:?} {direction:?} {answer:?}"
     );
+    let scored = Scoring {
+        score: answer.score,
+        supplied: answer.supplied,
+    };
     assert_eq!(
-        plain::score_of(book, &answer.steps),
-        answer.score,
+        plain::scoring_of(book, &answer.steps),
+        scored,
         "{list:?} {direction:?}"
     );
-    assert_eq!(plain::words_of(book, &answer.steps), answer.words);
-    let supplied = plain::supplied_of(book, &answer.steps);
-    assert_eq!(supplied, answer.supplied, "{list:?} {direction:?}");
-    assert_eq!(supplied.iter().sum::<usize>(), answer.words.len());
-    let scored = plain::scoring_of(book, &answer.steps);
     assert_eq!(score(list, direction, &answer.steps), Ok(scored));
+    assert_eq!(plain::words_of(book, &answer.steps), answer.words);
+    let all: usize = answer.supplied.iter().sum();
+    assert_eq!(all, answer.words.len());
     assert!(answer.score.abs() <= BOUND);
 }
 

@@ -156,6 +156,8 @@ fn words_256() {
     let expected = [1 + 31 + 32, 31 + 32, 1 + 32, 3 * 32];
     assert_eq!(expected.iter().sum::<usize>(), 256);
     assert_eq!(decoded(&list, &[11; 32]), expected);
+    let list = [&[1, 0, 0, -500][..], &phrase].concat();
+    assert_eq!(decoded(&list, &[11; 32]), [0, 0, 0, 256]);
 }
 
 /// Of two derivations of the top score the first in order is the answer, and its counts are reported.
