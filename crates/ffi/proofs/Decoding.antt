@@ -12,7 +12,7 @@ use Rattle.meaning.specs.Reply.{Reply, done, Lent, writtenOver, writtenIf, fill
 use Rattle.meaning.specs.declared.Answer.{Answer}
 use Rattle.meaning.specs.declared.Decoded.the-variants.{Done}
 use Rattle.meaning.specs.declared.Step.{Step}
-use Rattle.meaning.proofs.Demands.{answered, decode-counts}
+use Rattle.meaning.proofs.Demands.{answered, decode-counts, decode-in-all}
 use Rattle.records.specs.Plain.{stepsOf}
 use Rattle.decoder.specs.Decodes.{unlessRefused, PlainDecodes}
 use Rattle.decoder.proofs.Replies.{plain-decoded, plain-words, plain-count}
@@ -57,8 +57,11 @@ module _ (loaded : List ℤ) (direction : List ℕ) (width : ℤ) (steps₀ step
         let d : decode loaded direction width lent ≡ done a = plain-decoded into e in
         let words = targetWords (bookOf loaded) found in
         let f = answered loaded direction width lent a d in
+        let many : a .words < 9_223_372_036_854_775_808 = omega (arith, decode-counts loaded direction width lent a d .1, ap length (plain-words into e), length-append words (drop (length words) words₀)) in
+        let n = decode-in-all loaded direction width lent a d in
         record {
           steps = omega (arith, plain-count into e, c .has-room);
-          words = omega (arith, decode-counts loaded direction width lent a d .1, ap length (plain-words into e), length-append words (drop (length words) words₀));
+          words = many;
           states = omega (arith, f .room, f .states-are);
+          supplied = record { triples = omega (arith, n, many); pairs = omega (arith, n, many); words = omega (arith, n, many); unseen = omega (arith, n, many) };
         }

@@ -1,12 +1,13 @@
 -- What C sees of a call: one number as the answer, steps as plain numbers, and a report.
 use Prim.Native.Nat.{ℕ}
 use mathlib.Core.Path.{_≡_}
-use mathlib.Core.List.{List, [], _∷_}
+use mathlib.Core.List.{List, []}
 use lib.IntN.{ℤ, pos, negℤ}
 use lib.ListN.{length}
 use Rattle.meaning.specs.Book.{bookOf}
 use Rattle.meaning.specs.Search.{answer}
-use Rattle.meaning.specs.Reply.{Reply, refused, done, writtenIf, filledWith, countsOf, Lent, decodeRefusal, answerSteps, decode, decodedWords, decodedStore}
+use Rattle.meaning.specs.Reply.{Reply, refused, done, writtenIf, filledWith, totalsNumbers, countsOf, Lent, decodeRefusal, answerSteps, decode, decodedWords, decodedStore}
+use Rattle.meaning.specs.declared.Totals.{Totals}
 use Rattle.meaning.specs.declared.Answer.{Answer}
 use Rattle.lists.specs.Steps.{recordsIn, numbersOf}
 
@@ -20,12 +21,12 @@ abbrev pub zeroOrRefusal : {A : Type 0} → Reply A → ℤ
 zeroOrRefusal (done a) = pos 0
 zeroOrRefusal (refused k) = pos k
 
--- what a scoring reports: "score"; "nothing on a refusal"
-abbrev pub scoreReport : Reply ℤ → List ℤ
-scoreReport (done score) = score ∷ []
+-- what a scoring reports: score, triples, pairs, words, u; "nothing on a refusal"
+abbrev pub scoreReport : Reply Totals → List ℤ
+scoreReport (done totals) = totalsNumbers totals
 scoreReport (refused k) = []
 
--- what a decode reports: "score, steps, words, states"; "nothing on a refusal"
+-- what a decode reports: score, steps, words, states, triples, pairs, words, u; "nothing on a refusal"
 abbrev pub decodeReport : Reply Answer → List ℤ
 decodeReport (done a) = countsOf a
 decodeReport (refused k) = []

@@ -81,7 +81,7 @@ pub extern "C" fn phrase_target_count(book: &[i32], entry: usize) -> i64
     part.size as i64
 }
 
-// Scores a proposed list of steps: 0, or the refusal; the report is the score.
+// Scores a proposed list of steps: 0, or the refusal; the report is the score, and how many target words were supplied by triples, pairs, words and u.
 #[no_mangle]
 pub extern "C" fn phrase_score(
     book: &[i32],
@@ -94,15 +94,16 @@ pub extern "C" fn phrase_score(
 {
     let plain = lists::steps::gather(steps);
     match scoring::score_plain(book, direction, plain) {
-        Scored::Score(score) => {
-            lists::report::put_score(report, score);
+        Scored::Done(totals) => {
+            lists::report::put_totals(report, totals);
             0
         }
         Scored::Refused(refusal) => code_of(refusal),
     }
 }
 
-// Finds the best derivation: 0, or the refusal; the report is the score, and how many steps, words and states there are.
+// Finds the best derivation: 0, or the refusal; the report is the score, how many steps, words and states there are, and how many target words were
+// supplied by triples, pairs, words and u.
 #[no_mangle]
 pub extern "C" fn phrase_decode(
     book: &[i32],

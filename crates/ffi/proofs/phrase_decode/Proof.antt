@@ -24,6 +24,10 @@ use Rattle.lists.proofs.report.put_answer.Reads as put-answer-reads
 use Rattle.lists.proofs.steps.put_all.Reads as put-all-reads
 use Rattle.plain.proofs.decode_plain.Reads as decode-plain-reads
 
+-- the width, read from the number that was handed on
+width-read : (s : tie.Start) → toZ w64 (ofZ w64 (s .args .width)) ≡ s .args .width
+width-read s = search needs
+
 decode-plain-requires : tie.Need-decode-plain-requires
 decode-plain-requires c κs = search needs
 
@@ -36,7 +40,7 @@ enum-known-reply c = search needs
 put-answer-requires : tie.Need-put-answer-requires
 put-answer-requires c κs =
     let a = c .before .before .before .before .before .before .before .before .before .before .before .before .before .before .before .before .before .before .args in
-    let back : toZ w64 (ofZ w64 (a .width)) ≡ a .width = search needs in
+    let back = width-read (c .before .before .before .before .before .before .before .before .before .before .before .before .before .before .before .before .before .before) in
     countable (a .book .now) (a .direction .now) (a .width) (a .steps .now) (a .steps .now) (a .words .now) (c .before .before .before .before .before .before .before .before .before .before .before .before .decode-plain .last .1 .1 .1 .1 .0) (a .store .now) (c .before .before .before .before .before .before .before .before .before .before .before .before .decode-plain .last .1 .1 .1 .1 .1 .0) (c .before .before .before .before .before .before .before .before .before .before .before .before .decode-plain .result)
     (subst (λ (w : ℤ). PlainDecodes (a .book .now) (a .direction .now) w (length (a .steps .now) / 3) (a .words .now) (c .before .before .before .before .before .before .before .before .before .before .before .before .decode-plain .last .1 .1 .1 .1 .0) (a .store .now) (c .before .before .before .before .before .before .before .before .before .before .before .before .decode-plain .last .1 .1 .1 .1 .1 .0) (c .before .before .before .before .before .before .before .before .before .before .before .before .decode-plain .result)) back (c .before .before .before .before .before .before .before .before .before .before .before .before .decode-plain .ensures))
     (c .before .before .reply .given .0 .0) (c .before .before .reply .given .1) (omega (arith, c .before .before .before .before .before .before .before .before .before .before .before .before .before .before .before .before .before .before .good .1 .1 .1 .0)) (omega (arith, c .before .before .before .before .before .before .before .before .before .before .before .before .before .before .before .before .before .before .good .1 .1 .1 .1 .0)) (omega (arith, c .before .before .before .before .before .before .before .before .before .before .before .before .before .before .before .before .before .before .good .1 .1 .1 .1 .1 .0))
@@ -62,7 +66,7 @@ same-length-4 c = search needs
 returns : tie.Need-returns
 returns c =
     let a = c .before .before .before .before .before .before .before .before .before .before .before .before .before .before .before .before .before .before .before .before .args in
-    let back : toZ w64 (ofZ w64 (a .width)) ≡ a .width = search needs in
+    let back = width-read (c .before .before .before .before .before .before .before .before .before .before .before .before .before .before .before .before .before .before .before .before) in
     let g = c .before .before .before .before .reply .given .1 in
     decoded-numbers (a .book .now) (a .direction .now) (a .width) (a .steps .now) (c .before .before .before .before .before .before .before .before .put-all .last .0) (a .words .now) (c .before .before .before .before .before .before .before .before .before .before .before .before .before .before .decode-plain .last .1 .1 .1 .1 .0) (a .store .now) (c .before .before .before .before .before .before .before .before .before .before .before .before .before .before .decode-plain .last .1 .1 .1 .1 .1 .0) (c .before .before .before .before .before .before .before .before .before .before .before .before .before .before .decode-plain .result)
     (subst (λ (w : ℤ). PlainDecodes (a .book .now) (a .direction .now) w (length (a .steps .now) / 3) (a .words .now) (c .before .before .before .before .before .before .before .before .before .before .before .before .before .before .decode-plain .last .1 .1 .1 .1 .0) (a .store .now) (c .before .before .before .before .before .before .before .before .before .before .before .before .before .before .decode-plain .last .1 .1 .1 .1 .1 .0) (c .before .before .before .before .before .before .before .before .before .before .before .before .before .before .decode-plain .result)) back (c .before .before .before .before .before .before .before .before .before .before .before .before .before .before .decode-plain .ensures))
@@ -82,7 +86,7 @@ same-length-7 c = search needs
 returns-2 : tie.Need-returns-2
 returns-2 c =
     let a = c .before .before .before .before .before .before .before .before .before .before .before .before .before .before .before .before .before .before .args in
-    let back : toZ w64 (ofZ w64 (a .width)) ≡ a .width = search needs in
+    let back = width-read (c .before .before .before .before .before .before .before .before .before .before .before .before .before .before .before .before .before .before) in
     let g = c .before .before .reply2 .given .1 in
     decoded-numbers (a .book .now) (a .direction .now) (a .width) (a .steps .now) (c .before .before .before .before .before .before .put-all .last .0) (a .words .now) (c .before .before .before .before .before .before .before .before .before .before .before .before .decode-plain .last .1 .1 .1 .1 .0) (a .store .now) (c .before .before .before .before .before .before .before .before .before .before .before .before .decode-plain .last .1 .1 .1 .1 .1 .0) (c .before .before .before .before .before .before .before .before .before .before .before .before .decode-plain .result)
     (subst (λ (w : ℤ). PlainDecodes (a .book .now) (a .direction .now) w (length (a .steps .now) / 3) (a .words .now) (c .before .before .before .before .before .before .before .before .before .before .before .before .decode-plain .last .1 .1 .1 .1 .0) (a .store .now) (c .before .before .before .before .before .before .before .before .before .before .before .before .decode-plain .last .1 .1 .1 .1 .1 .0) (c .before .before .before .before .before .before .before .before .before .before .before .before .decode-plain .result)) back (c .before .before .before .before .before .before .before .before .before .before .before .before .decode-plain .ensures))
