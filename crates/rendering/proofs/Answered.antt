@@ -16,7 +16,7 @@ use Rattle.meaning.specs.declared.Answer.{Answer}
 use Rattle.meaning.specs.declared.Decoded.{Decoded}
 use Rattle.meaning.specs.declared.Decoded.the-variants.{Done, Refused}
 use Rattle.meaning.specs.declared.Step.{Step}
-use Rattle.meaning.proofs.Demands.{answered, decode-counts, decode-bound}
+use Rattle.meaning.proofs.Demands.{answered, decode-counts, decode-in-all, decode-bound}
 use Rattle.records.specs.Plain.{stepsOf}
 use Rattle.answer.specs.declared.PlainReply.{PlainReply}
 use Rattle.decoder.specs.Decodes.{PlainDecodes}
@@ -59,6 +59,7 @@ module _ (loaded : List ℤ) (direction : List ℕ) (words₀ words₁ : List �
           steps = omega (arith, plain-count D e, D .has-room);
           words = omega (arith, words-counted, ap length (plain-words D e), length-append words (drop (length words) words₀), w₁);
           states = omega (arith, f .states-are, f .room, s₀);
+          in-all = decode-in-all loaded direction (negsuc 0) lent a (plain-decoded D e);
         }
 
     prints : printedDone a (r .plain .numbers) words₁ ≡ printedAnswer a steps words

@@ -21,13 +21,14 @@ use Rattle.rendering.specs.Parts.{Fits, printedDone}
 -- the numbers of its first line can be put
 pub done-printable : (a : Answer) → Fits a → Printable (countsOf a)
 done-printable a f =
-    and-put (within-mono (omega arith) (f .score)) (and-put (nat-put _ (omega (arith, f .steps))) (and-put (nat-put _ (omega (arith, f .words))) (and-put (nat-put _ (omega (arith, f .states))) none-put)))
+    and-put (within-mono (omega arith) (f .score)) (and-put (nat-put _ (omega (arith, f .steps))) (and-put (nat-put _ (omega (arith, f .words))) (and-put (nat-put _ (omega (arith, f .states)))
+    (and-put (nat-put _ (omega (arith, f .in-all, f .words))) (and-put (nat-put _ (omega (arith, f .in-all, f .words))) (and-put (nat-put _ (omega (arith, f .in-all, f .words))) (and-put (nat-put _ (omega (arith, f .in-all, f .words))) none-put)))))))
 
 -- the numbers of an answer are of 16 bits
 pub done-short : (a : Answer) (numbers words : List ℕ) → Fits a → ((i : ℕ) → getD numbers i 0 < wordSpan) → ((i : ℕ) → getD words i 0 < wordSpan)
     → length (printedDone a numbers words) ≤ 4_096
 done-short a numbers words f small fit =
-    answer-short a (stepsOf (plainOf numbers (a .steps))) (take (a .words) words) (f .score) (f .steps) (f .words) (omega (arith, f .states))
+    answer-short a (stepsOf (plainOf numbers (a .steps))) (take (a .words) words) (f .score) (f .steps) (f .words) (omega (arith, f .states)) (f .in-all)
     (omega (arith, count-steps (plainOf numbers (a .steps)) (a .steps), f .steps)) (steps-small numbers (a .steps) small)
     (omega (arith, length-take (a .words) words, f .words)) each
   where

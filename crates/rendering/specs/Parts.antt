@@ -1,11 +1,13 @@
 -- What the parts of the rendering program ensure, in terms of the lists that they lend.
 use Prim.Native.Nat.{ℕ, zero, suc, _≤_}
+use mathlib.Core.Path.{_≡_}
 use mathlib.Core.List.{List}
 use lib.IntN.{ℤ, negsuc}
 use lib.ListN.{take}
 use Rattle.laws.specs.Integers.{Within}
 use Rattle.meaning.specs.Questions.{number}
 use Rattle.meaning.specs.Direction.{directionOf}
+use Rattle.meaning.specs.Derivation.{inAll}
 use Rattle.meaning.specs.State.{scoreBound}
 use Rattle.meaning.specs.Reply.{Reply, decode}
 use Rattle.meaning.specs.Render.{printedRefusal, printedAnswer, printedDecode}
@@ -29,6 +31,7 @@ pub record Fits (a : Answer) : Type 0 where
   pub steps : a .steps ≤ 32
   pub words : a .words ≤ 256
   pub states : a .states ≤ 512
+  pub in-all : inAll (a .supplied) ≡ a .words
 
 abbrev pub FitsDecoded : Decoded → Type 0
 FitsDecoded (Done a) = Fits a
