@@ -38,9 +38,9 @@ int main(void)
         return refused(-count);
 
     uint16_t steps[3 * 32], words[8 * 32];
-    int64_t report[4]; /* score, steps, words, states */
+    int64_t report[8]; /* score, steps, words, states; triples, pairs, words, u */
     int32_t refusal = phrase_decode(book, (size_t)numbers, direction, (size_t)count, -1, steps, 3 * 32, words, 8 * 32,
-                                    store, 8 * STATES, report, 4);
+                                    store, 8 * STATES, report, 8);
     if (refusal)
         return refused(refusal);
 
@@ -51,5 +51,7 @@ int main(void)
     for (int64_t k = 0; k < report[2]; k++)
         printf(" %u", words[k]);
     printf("\n");
+    printf("of the %lld words the book knows %lld after the two words before them, %lld after one, %lld by themselves and %lld not at all\n",
+           (long long)report[2], (long long)report[4], (long long)report[5], (long long)report[6], (long long)report[7]);
     return 0;
 }

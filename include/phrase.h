@@ -10,7 +10,11 @@
  * A loaded book is a list of signed 32-bit numbers. Calls after phrase_read_book are lent just the numbers that it wrote.
  * A step is three unsigned 16-bit numbers: first, last, entry. Positions and entries count from 1. Numbers left over behind the last whole step
  * are no place. A store is a list of signed 64-bit numbers, eight to a state.
- * A report list gets as many of its values as it has places, and nothing on a refusal. */
+ * A report list gets as many of its values as it has places, and nothing on a refusal.
+ *
+ * The score of a target word is that of the triple it ends (a T line) or, where that is not listed, backs off to the pair of its last two words (a D
+ * line), to the word alone (a U line), or to u. A report says how many target words of the derivation each of these four supplied, in this order; a
+ * weight that is added on the way supplies nothing. The four add up to the number of target words. */
 #ifndef PHRASE_H
 #define PHRASE_H
 
@@ -38,13 +42,14 @@ int64_t phrase_target_start(const int32_t *book, size_t book_len, size_t entry);
 int64_t phrase_target_count(const int32_t *book, size_t book_len, size_t entry);
 
 /* Scores a proposed list of steps, of any number. Returns 0, or the refusal: 2 to 6, 20, 9, 10, 16 to 19.
- * report: the score. Changes nothing else. */
+ * report, five values: the score, and how many target words were supplied by triples, pairs, words and u. Changes nothing else. */
 int32_t phrase_score(const int32_t *book, size_t book_len, const uint16_t *direction, size_t direction_len,
                      const uint16_t *steps, size_t steps_len, int64_t *report, size_t report_len);
 
 /* Finds the best derivation. `width` is -1 (pruning off) or the beam's width. Returns 0, or the refusal: 2 to 6, 20, 9 to 15.
  * On success the steps stand at the front of `steps`, their target words at the front of `words`, and the places behind them are as before;
- * report: the score, the number of steps, of words, and of states entered.
+ * report, eight values: the score, the number of steps, of words, and of states entered, and how many target words were supplied by triples, pairs,
+ * words and u: those that phrase_score reports of the same steps.
  * Of derivations with equal scores the first in order wins, compared step by step by first, then last, then entry: the book, the direction and the
  * width alone decide the steps and the words.
  * After a refusal `steps` and `words` are as before. After 13, 14, 15 and after success every number of `store` is 0; after another refusal it is as

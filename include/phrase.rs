@@ -71,7 +71,7 @@ pub fn target_part(book: &[i32], entry: usize) -> (i64, i64) {
     }
 }
 
-/// 0, or the refusal; the report gets the score.
+/// 0, or the refusal; the report gets five values: the score, and how many target words were supplied by triples, pairs, words and u.
 pub fn score(book: &[i32], direction: &[u16], steps: &[u16], report: &mut [i64]) -> i32 {
     unsafe {
         phrase_score(
@@ -87,7 +87,8 @@ pub fn score(book: &[i32], direction: &[u16], steps: &[u16], report: &mut [i64])
     }
 }
 
-/// 0, or the refusal. Steps are three numbers each: first, last, entry. The report gets the score, and how many steps, words and states there are.
+/// 0, or the refusal. Steps are three numbers each: first, last, entry. The report gets eight values: the score, how many steps, words and states there
+/// are, and how many target words were supplied by triples, pairs, words and u.
 pub fn decode(
     book: &[i32],
     direction: &[u16],

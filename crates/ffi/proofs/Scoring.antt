@@ -5,7 +5,6 @@ use mathlib.Core.Path.{_≡_, sym, ap, _∙_}
 use mathlib.Core.List.{List, [], _∷_}
 use lib.IntN.{ℤ}
 use lib.ListN.{length, length-append}
-use Rattle.laws.specs.Lists.{concat}
 use Rattle.meaning.specs.Book.{Book, bookRefusal, bookOf}
 use Rattle.meaning.specs.Derivation.{entryAt, targetWords, inAll}
 use Rattle.meaning.specs.Reply.{done, proposalRefusal, totalsOf, scoreProposal}

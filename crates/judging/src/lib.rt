@@ -6,7 +6,6 @@ use meaning::Supplied;
 use meaning::Supplier;
 use records::Plain;
 ghost use mathlib.Core.Path.{_≡_};
-ghost use mathlib.Core.List.{map};
 ghost use Prim.Native.Nat.{ℕ, _*_, _^_, _≤_, _<_};
 ghost use lib.ListN.{length};
 ghost use Rattle.meaning.specs.Book.{Entry, bookOf};

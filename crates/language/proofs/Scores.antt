@@ -19,7 +19,7 @@ use Rattle.meaning.proofs.Bounds.{score-or, weight-within, word-within}
 use Rattle.meaning.specs.Book.{Gram}
 use Rattle.meaning.specs.Derivation.{listed, scoreOr, weight, wordScore, pairScore, isListed, supplier}
 use Rattle.meaning.specs.declared.Supplier.the-variants.{Triple, Unseen}
-use Rattle.meaning.proofs.Judging.{listed-else, listed-same}
+use Rattle.meaning.proofs.Judging.{zero-one, listed-else, else-unlisted}
 use Rattle.ngrams.specs.declared.Key.{Key}
 use Rattle.ngrams.specs.Grams.{keyAt, scoreAt, wordsOf, keyOf, gramAt, gramsIn, sameKey, holds, Listing}
 use Rattle.ngrams.proofs.Keys.{same-is, is-same, same-words, words-few}
@@ -125,25 +125,18 @@ module _ {index : List ℕ} {n shorter : ℕ} (x : Listing index n shorter) wher
           no : Unlisted ≡ Is (scoreAt index k) → ⊥
           no q = let z : _≡_ {A = ℕ} 0 1 = cc in omega arith
 
-  -- what is found is listed: whatever stands for what is not, the score is the same ..
+  -- what is found is listed: else the score would be whatever stands for what is not ..
   pub is-listed : (words : List ℕ) → length words ≤ 3 → (s : ℤ) → Is s ≡ latestScore index n (keyOf words) → isListed (gramsIn index n) words ≡ true
   is-listed words few s e =
       by-test (isListed (gramsIn index n) words) (λ t. t)
       (λ f. absurd (zero-one (sym (at (pos 0) f) ∙ at (pos 1) f)))
     where
-      zero-one : pos 0 ≡ pos 1 → ⊥
-      zero-one q = let z : _≡_ {A = ℕ} 0 1 = cc in omega arith
-
       at : (other : ℤ) → isListed (gramsIn index n) words ≡ false → s ≡ other
       at other f = score-listed words few other s e ∙ listed-else (λ g. g .s) words other (gramsIn index n) f
 
   -- .. and what is not found is not
   pub not-listed : (words : List ℕ) → length words ≤ 3 → Unlisted ≡ latestScore index n (keyOf words) → isListed (gramsIn index n) words ≡ false
-  not-listed words few e =
-      is-false (λ t. zero-one (other-listed words few (pos 0) e ∙ listed-same (λ g. g .s) words (pos 0) (pos 1) (gramsIn index n) t ∙ sym (other-listed words few (pos 1) e)))
-    where
-      zero-one : pos 0 ≡ pos 1 → ⊥
-      zero-one q = let z : _≡_ {A = ℕ} 0 1 = cc in omega arith
+  not-listed words few e = else-unlisted (λ g. g .s) words (gramsIn index n) (λ other. sym (other-listed words few other e))
 
   -- ---- only triples are listed
 
@@ -165,12 +158,8 @@ module _ {index : List ℕ} {n shorter : ℕ} (x : Listing index n shorter) wher
         rw (unlisted (λ g. g .k) (pos 0) (v ∷ w ∷ []) (omega arith), unlisted (λ g. g .s) (weight (gramsIn index n) (w ∷ []) +ℤ scoreOr (gramsIn index n) u (y ∷ [])) (w ∷ y ∷ []) (omega arith), unlisted (λ g. g .k) (pos 0) (w ∷ []) (omega arith), unlisted (λ g. g .s) u (y ∷ []) (omega arith))
         (omega (arith, signed, sum (pos 0) u, sum (pos 0) (pos 0 +ℤ u)))
 
-    -- neither the pair nor the word is listed
     none-shorter : (words : List ℕ) → length words ≤ 2 → isListed (gramsIn index n) words ≡ false
-    unfolding keyOf holds
-    none-shorter words few =
-        is-false (λ t. let z : pos 0 ≡ pos 1 = sym (unlisted (λ g. g .s) (pos 0) words few) ∙ listed-same (λ g. g .s) words (pos 0) (pos 1) (gramsIn index n) t ∙ unlisted (λ g. g .s) (pos 1) words few in
-        let q : _≡_ {A = ℕ} 0 1 = cc in omega arith)
+    none-shorter words few = else-unlisted (λ g. g .s) words (gramsIn index n) (λ other. unlisted (λ g. g .s) other words few)
 
     pub backs-to-unseen : (v w y : ℕ) → Unseen ≡ unlistedSupplier (gramsIn index n) (v ∷ w ∷ y ∷ [])
     unfolding unlistedSupplier

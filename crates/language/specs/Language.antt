@@ -38,7 +38,7 @@ unlistedScore u grams (w ∷ y ∷ []) = weight grams (w ∷ []) +ℤ wordScore 
 unlistedScore u grams (v ∷ w ∷ y ∷ []) = weight grams (v ∷ w ∷ []) +ℤ pairScore u grams w y
 unlistedScore u grams (a ∷ b ∷ c ∷ d ∷ words) = u
 
--- which n-gram has so many words
+-- the n-gram of so many words, as a supplier
 abbrev pub supplierBy : ℕ → Supplier
 supplierBy order = cond (eqb order 3) Triple (cond (eqb order 2) Pair Word)
 

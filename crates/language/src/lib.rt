@@ -101,7 +101,7 @@ fn weight_of(index: &[u16], count: usize, key: Key) -> i64
     ngrams::weight_at(index, at - 1)
 }
 
-// Which n-gram has so many words.
+// The n-gram of so many words, as a supplier.
 fn supplier_by(order: usize) -> Supplier
     ensures { λ r. ⌜ r ≡ supplierBy order ⌝ }
 {

@@ -79,7 +79,7 @@ unfoldable pub suppliers : List Gram → ℕ → ℕ → List ℕ → List Suppl
 suppliers grams v w [] = []
 suppliers grams v w (y ∷ ys) = supplier grams v w y ∷ suppliers grams w y ys
 
--- how many of them have a place
+-- how many of them stand at place k
 abbrev pub countAt : ℕ → List Supplier → ℕ
 countAt k row = count (λ s. eqb (place s) k) row
 
@@ -87,7 +87,7 @@ countAt k row = count (λ s. eqb (place s) k) row
 abbrev pub countsBy : List Supplier → Supplied
 countsBy row = record { triples = countAt 1 row; pairs = countAt 2 row; words = countAt 3 row; unseen = countAt 4 row }
 
--- "they add up to all target words"
+-- the four together: "they add up to all target words" (proofs/Judging)
 abbrev pub inAll : Supplied → ℕ
 inAll s = s .triples + s .pairs + s .words + s .unseen
 

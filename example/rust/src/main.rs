@@ -26,12 +26,14 @@ struct Answer {
     steps: Vec<[u16; 3]>,
     words: Vec<u16>,
     states: i64,
+    /// How many of the words were supplied by triples, pairs, words and u.
+    supplied: [i64; 4],
 }
 
 /// The best derivation, pruning off, with a store of so many states, or the refusal.
 fn decode(book: &[i32], direction: &[u16], states: usize) -> Result<Answer, i64> {
     let (mut steps, mut words) = ([0; 3 * 32], [0; 8 * 32]);
-    let (mut store, mut report) = (vec![0; 8 * states], [0; 4]);
+    let (mut store, mut report) = (vec![0; 8 * states], [0; 8]);
     let refusal = phrase::decode(
         book,
         direction,
@@ -44,7 +46,7 @@ fn decode(book: &[i32], direction: &[u16], states: usize) -> Result<Answer, i64>
     if refusal != 0 {
         return Err(refusal as i64);
     }
-    let [score, step_count, word_count, states] = report;
+    let [score, step_count, word_count, states, supplied @ ..] = report;
     Ok(Answer {
         score,
         steps: (steps.chunks_exact(3).take(step_count as usize))
@@ -52,6 +54,7 @@ fn decode(book: &[i32], direction: &[u16], states: usize) -> Result<Answer, i64>
             .collect(),
         words: words[..word_count as usize].to_vec(),
         states,
+        supplied,
     })
 }
 
@@ -69,6 +72,11 @@ fn main() {
             }
             let words: Vec<String> = answer.words.iter().map(u16::to_string).collect();
             println!("in the carer's language: {}", words.join(" "));
+            let [triples, pairs, alone, unseen] = answer.supplied;
+            println!(
+                "of the {} words the book knows {triples} after the two words before them, {pairs} after one, {alone} by themselves and {unseen} not at all",
+                words.len()
+            );
         }
     }
 }

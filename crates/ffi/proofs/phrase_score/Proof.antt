@@ -1,6 +1,6 @@
 -- The first 33 steps decide; the score with its counts or the refusal is what C is told.
 use native.Mathlib.Omega.{arith}
-use mathlib.Core.Path.{_≡_, sym, ap, _∙_}
+use mathlib.Core.Path.{sym, ap, _∙_}
 use Rattle.meaning.specs.Reply.{Reply, scoredReply}
 use Rattle.meaning.specs.Reply.{filledWith}
 use Rattle.meaning.specs.declared.Totals.{Totals}

@@ -2,7 +2,7 @@
 use Prim.Native.Nat.{ℕ, _+_, _*_, _≤_, _<_}
 use native.Mathlib.Omega.{arith}
 use mathlib.Core.Path.{_≡_, sym, ap, _∙_, subst}
-use mathlib.Core.Bool.{true, false, cond}
+use mathlib.Core.Bool.{cond}
 use mathlib.Core.List.{List, dropLast}
 use lib.IntN.{ℤ, _+ℤ_}
 use lib.ListN.{length, drop, length-drop}
@@ -22,8 +22,7 @@ use Rattle.meaning.proofs.Bounds.{weight-within}
 use Rattle.ngrams.specs.declared.Key.{Key}
 use Rattle.ngrams.specs.Grams.{wordsOf, keyOf, gramsIn}
 use Rattle.ngrams.proofs.Keys.{words-back, words-few}
-use Rattle.language.specs.declared.Score.the-variants.{Is, Unlisted}
-use Rattle.language.specs.Language.{latestScore, latestWeight, unlistedScore, supplierBy, unlistedSupplier, Shortens, IsModel}
+use Rattle.language.specs.Language.{latestScore, latestWeight, unlistedScore, supplierBy, unlistedSupplier, Shortens}
 use Rattle.language.proofs.Scores.{weight-listed, score-listed, other-listed, is-listed, not-listed, words-some, as-many, drop-last-long, unlisted-word, unlisted-more, supplier-word, supplier-more, rest-within}
 use Rattle.language.proofs.back_off.Reads as back-off
 use Rattle.language.proofs.back_off.Kinds as back-off-kinds

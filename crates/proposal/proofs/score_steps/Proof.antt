@@ -1,7 +1,6 @@
 -- What the walk over the steps answers is the reply; where it is a score, each step has an entry of the book, and the words are judged.
 use native.Mathlib.Omega.{arith}
-use mathlib.Core.Path.{_≡_, sym, _∙_}
-use lib.ListN.{length, length-map}
+use mathlib.Core.Path.{_≡_}
 use Rattle.laws.proofs.Got.{i64}
 use Rattle.meaning.specs.Book.{bookOf}
 use Rattle.proposal.proofs.Numbers.{entries-in, said, said-passes, totalled, turned-down}
