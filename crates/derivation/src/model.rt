@@ -17,7 +17,7 @@ fn add_word(index: &[u16], t: Setup, s: Row, y: u16) -> Row
     ensures { λ r. ⌜ r ≡ withWord (now (index .entry)) t s y ⌝ }
 {
     let old = s.score;
-    let judged = language::judge(
+    let gain = language::triple_score(
         index,
         t.model,
         s.word1 as usize,
@@ -25,7 +25,7 @@ fn add_word(index: &[u16], t: Setup, s: Row, y: u16) -> Row
         y as usize,
     );
     Row {
-        score: old + judged.score,
+        score: old + gain,
         word1: s.word2,
         word2: y,
     }

@@ -102,9 +102,7 @@ pub fn judge_words(index: &[u16], t: Setup, words: &[u16]) -> Supplied
     let mut i = 0;
     while i < words.len() {
         let y = words[i] as usize;
-        let judged = language::judge(index, t.model, v, w, y);
-        let by = judged.by;
-        s = with_supplier(s, by);
+        s = with_supplier(s, language::supplier(index, t.model, v, w, y));
         v = w;
         w = y;
         i += 1;

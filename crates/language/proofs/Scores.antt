@@ -2,7 +2,7 @@
 use Prim.Native.Nat.{ℕ, zero, suc, _*_, _-_, _≤_, _<_}
 use native.Mathlib.Omega.{arith}
 use mathlib.Core.Path.{_≡_, refl, sym, ap, _∙_}
-use mathlib.Core.Bool.{true, false, cond}
+use mathlib.Core.Bool.{true, false}
 use mathlib.Core.List.{List, [], _∷_, dropLast, List·Memᴰ}
 use lib.Dec.{eqb}
 use lib.IntN.{ℤ, pos, _+ℤ_}
@@ -17,15 +17,14 @@ use Rattle.laws.proofs.Linear.{signed, sum}
 use Rattle.meaning.specs.Bounds.{scoreMost}
 use Rattle.meaning.proofs.Bounds.{score-or, weight-within, word-within}
 use Rattle.meaning.specs.Book.{Gram}
-use Rattle.meaning.specs.Derivation.{listed, scoreOr, weight, wordScore, pairScore, isListed, supplier}
-use Rattle.meaning.specs.declared.Supplier.the-variants.{Triple, Unseen}
+use Rattle.meaning.specs.Derivation.{listed, scoreOr, weight, wordScore, pairScore, isListed}
 use Rattle.meaning.proofs.Judging.{zero-one, listed-else, else-unlisted}
 use Rattle.ngrams.specs.declared.Key.{Key}
 use Rattle.ngrams.specs.Grams.{keyAt, scoreAt, wordsOf, keyOf, gramAt, gramsIn, sameKey, holds, Listing}
-use Rattle.ngrams.proofs.Keys.{same-is, is-same, same-words, words-few}
+use Rattle.ngrams.proofs.Keys.{same-is, is-same, same-words, words-back, words-few}
 use Rattle.ngrams.proofs.Differ.{firsts-length, firsts-at, is-different}
 use Rattle.language.specs.declared.Score.the-variants.{Is, Unlisted}
-use Rattle.language.specs.Language.{found, latestScore, latestWeight, unlistedScore, supplierBy, unlistedSupplier, Shortens}
+use Rattle.language.specs.Language.{found, latestScore, latestWeight, unlistedScore, Shortens}
 
 -- ---- the result of a search
 
@@ -125,18 +124,21 @@ module _ {index : List ℕ} {n shorter : ℕ} (x : Listing index n shorter) wher
           no : Unlisted ≡ Is (scoreAt index k) → ⊥
           no q = let z : _≡_ {A = ℕ} 0 1 = cc in omega arith
 
-  -- what is found is listed: else the score would be whatever stands for what is not ..
-  pub is-listed : (words : List ℕ) → length words ≤ 3 → (s : ℤ) → Is s ≡ latestScore index n (keyOf words) → isListed (gramsIn index n) words ≡ true
-  is-listed words few s e =
-      by-test (isListed (gramsIn index n) words) (λ t. t)
-      (λ f. absurd (zero-one (sym (at (pos 0) f) ∙ at (pos 1) f)))
-    where
-      at : (other : ℤ) → isListed (gramsIn index n) words ≡ false → s ≡ other
-      at other f = score-listed words few other s e ∙ listed-else (λ g. g .s) words other (gramsIn index n) f
+  -- the words are listed exactly where a search finds them
+  module _ (words : List ℕ) (few : length words ≤ 3) where
+    pub missed : latest (holds index (keyOf words)) n ≡ 0 → isListed (gramsIn index n) words ≡ false
+    missed e = else-unlisted (λ g. g .s) words (gramsIn index n) (λ other. none-listed (λ g. g .s) other words few e)
 
-  -- .. and what is not found is not
-  pub not-listed : (words : List ℕ) → length words ≤ 3 → Unlisted ≡ latestScore index n (keyOf words) → isListed (gramsIn index n) words ≡ false
-  not-listed words few e = else-unlisted (λ g. g .s) words (gramsIn index n) (λ other. sym (other-listed words few other e))
+    pub met : (latest (holds index (keyOf words)) n ≡ 0 → ⊥) → isListed (gramsIn index n) words ≡ true
+    met d =
+        by-test (isListed (gramsIn index n) words) (λ t. t)
+        (λ f. absurd (zero-one (sym (at (pos 0) f) ∙ at (pos 1) f)))
+      where
+        k : ℕ
+        k = latest (holds index (keyOf words)) n - 1
+
+        at : (other : ℤ) → isListed (gramsIn index n) words ≡ false → gramAt index k .s ≡ other
+        at other f = sym (some-listed (λ g. g .s) other words few k (omega (arith, d))) ∙ listed-else (λ g. g .s) words other (gramsIn index n) f
 
   -- ---- only triples are listed
 
@@ -158,19 +160,23 @@ module _ {index : List ℕ} {n shorter : ℕ} (x : Listing index n shorter) wher
         rw (unlisted (λ g. g .k) (pos 0) (v ∷ w ∷ []) (omega arith), unlisted (λ g. g .s) (weight (gramsIn index n) (w ∷ []) +ℤ scoreOr (gramsIn index n) u (y ∷ [])) (w ∷ y ∷ []) (omega arith), unlisted (λ g. g .k) (pos 0) (w ∷ []) (omega arith), unlisted (λ g. g .s) u (y ∷ []) (omega arith))
         (omega (arith, signed, sum (pos 0) u, sum (pos 0) (pos 0 +ℤ u)))
 
-    none-shorter : (words : List ℕ) → length words ≤ 2 → isListed (gramsIn index n) words ≡ false
-    none-shorter words few = else-unlisted (λ g. g .s) words (gramsIn index n) (λ other. unlisted (λ g. g .s) other words few)
-
-    pub backs-to-unseen : (v w y : ℕ) → Unseen ≡ unlistedSupplier (gramsIn index n) (v ∷ w ∷ y ∷ [])
-    unfolding unlistedSupplier
-    backs-to-unseen v w y = rw (none-shorter (w ∷ y ∷ []) (omega arith), none-shorter (y ∷ []) (omega arith))
-
 -- ---- shorter keys
 
 -- its order is how many words it has
 pub as-many : {key : Key} → key ≡ keyOf (wordsOf key) → key .order ≡ length (wordsOf key)
 unfolding keyOf
 as-many e = ap (λ (k : Key). k .order) e
+
+-- the key of some words has these words
+module _ {key : Key} (ws : List ℕ) (few : length ws ≤ 3) (e : key ≡ keyOf ws) where
+  pub key-words : wordsOf key ≡ ws
+  key-words = ap wordsOf e ∙ words-back ws few
+
+  pub key-padded : key ≡ keyOf (wordsOf key)
+  key-padded = e ∙ ap keyOf (sym key-words)
+
+  pub key-shortens : 2 ≤ length ws → Shortens key
+  key-shortens h = record { padded = key-padded; some = omega (arith, as-many key-padded, ap length key-words) }
 
 -- one word less
 pub drop-last-long : (ws : List ℕ) → length (dropLast ws) ≤ length ws
@@ -239,25 +245,6 @@ module _ (u : ℤ) (grams : List Gram) where
   pub unlisted-triple : (v w y : ℕ) → unlistedScore u grams (v ∷ w ∷ y ∷ []) ≡ weight grams (v ∷ w ∷ []) +ℤ pairScore u grams w y
   unfolding unlistedScore
   unlisted-triple v w y = refl
-
-  -- who supplies them
-  pub supplier-word : (ws : List ℕ) → length ws ≤ 1 → unlistedSupplier grams ws ≡ Unseen
-  unfolding unlistedSupplier
-  supplier-word [] l = refl
-  supplier-word (y ∷ []) l = refl
-  supplier-word (w ∷ y ∷ ws) l = absurd (omega arith)
-
-  pub supplier-more : (ws : List ℕ) → 2 ≤ length ws → length ws ≤ 3 → cond (isListed grams (drop 1 ws)) (supplierBy (length (drop 1 ws))) (unlistedSupplier grams (drop 1 ws)) ≡ unlistedSupplier grams ws
-  unfolding unlistedSupplier
-  supplier-more [] a b = absurd (omega arith)
-  supplier-more (y ∷ []) a b = absurd (omega arith)
-  supplier-more (w ∷ y ∷ []) a b = refl
-  supplier-more (v ∷ w ∷ y ∷ []) a b = refl
-  supplier-more (p ∷ q ∷ r ∷ s ∷ ws) a b = absurd (omega arith)
-
-  pub supplier-triple : (v w y : ℕ) → supplier grams v w y ≡ cond (isListed grams (v ∷ w ∷ y ∷ [])) Triple (unlistedSupplier grams (v ∷ w ∷ y ∷ []))
-  unfolding supplier unlistedSupplier
-  supplier-triple v w y = refl
 
   module _ (unseen-within : Within scoreMost u) (gram-within : (g : Gram) → List·Memᴰ g grams → Within scoreMost (g .s) × Within scoreMost (g .k)) where
     -- what is added to a weight

@@ -1,17 +1,13 @@
 -- The language model as code has it: records in a list, and three numbers.
 use Prim.Native.Nat.{ℕ, zero, suc, _≤_}
 use mathlib.Core.Path.{_≡_}
-use mathlib.Core.Bool.{cond}
 use mathlib.Core.List.{List, [], _∷_, List·Memᴰ}
-use lib.Dec.{eqb}
 use lib.IntN.{ℤ, pos, _+ℤ_}
 use Rattle.laws.specs.Index.{latest}
 use Rattle.laws.specs.Integers.{Within}
 use Rattle.meaning.specs.Bounds.{scoreMost}
 use Rattle.meaning.specs.Book.{Gram}
-use Rattle.meaning.specs.Derivation.{weight, wordScore, pairScore, isListed}
-use Rattle.meaning.specs.declared.Supplier.{Supplier}
-use Rattle.meaning.specs.declared.Supplier.the-variants.{Triple, Pair, Word, Unseen}
+use Rattle.meaning.specs.Derivation.{weight, wordScore, pairScore}
 use Rattle.ngrams.specs.declared.Key.{Key}
 use Rattle.ngrams.specs.Grams.{scoreAt, weightAt, wordsOf, keyOf, holds, gramsIn, Listing}
 use Rattle.language.specs.declared.LanguageModel.{LanguageModel}
@@ -37,18 +33,6 @@ unlistedScore u grams (y ∷ []) = u
 unlistedScore u grams (w ∷ y ∷ []) = weight grams (w ∷ []) +ℤ wordScore u grams y
 unlistedScore u grams (v ∷ w ∷ y ∷ []) = weight grams (v ∷ w ∷ []) +ℤ pairScore u grams w y
 unlistedScore u grams (a ∷ b ∷ c ∷ d ∷ words) = u
-
--- the n-gram of so many words, as a supplier
-abbrev pub supplierBy : ℕ → Supplier
-supplierBy order = cond (eqb order 3) Triple (cond (eqb order 2) Pair Word)
-
--- who supplies the score of an n-gram that is not listed
-unfoldable pub unlistedSupplier : List Gram → List ℕ → Supplier
-unlistedSupplier grams [] = Unseen
-unlistedSupplier grams (y ∷ []) = Unseen
-unlistedSupplier grams (w ∷ y ∷ []) = cond (isListed grams (y ∷ [])) Word Unseen
-unlistedSupplier grams (v ∷ w ∷ y ∷ []) = cond (isListed grams (w ∷ y ∷ [])) Pair (cond (isListed grams (y ∷ [])) Word Unseen)
-unlistedSupplier grams (a ∷ b ∷ c ∷ d ∷ words) = Unseen
 
 -- the key of two or three words
 pub record Shortens (key : Key) : Type 0 where

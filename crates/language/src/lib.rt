@@ -1,13 +1,13 @@
 // The score of a triple in the language model, backed off to shorter histories: the triple's own, else by its last two words, else by the last, else u;
-// and which of them supplied it.
+// and which of them supplies it.
 use meaning::Supplier;
 use ngrams::Key;
 ghost use mathlib.Core.Path.{_≡_};
 ghost use mathlib.Core.List.{[], _∷_, dropLast};
 ghost use lib.ListN.{drop};
-ghost use Rattle.meaning.specs.Derivation.{backedOff, supplier};
+ghost use Rattle.meaning.specs.Derivation.{backedOff, isListed, supplier};
 ghost use Rattle.ngrams.specs.Grams.{wordsOf, keyOf, gramsIn, Indexed};
-ghost use Rattle.language.specs.Language.{latestScore, latestWeight, unlistedScore, supplierBy, unlistedSupplier, Shortens, IsModel};
+ghost use Rattle.language.specs.Language.{latestScore, latestWeight, unlistedScore, Shortens, IsModel};
 
 // What the language model is beside its records: how many there are, how many of them are pairs and words, and the score u of an unseen word.
 pub struct LanguageModel {
@@ -16,13 +16,7 @@ pub struct LanguageModel {
     pub unseen: i64,
 }
 
-// What the lookup of a triple answers: the final score, and which of triple, pair, word or u supplied it.
-pub struct Judged {
-    pub score: i64,
-    pub by: Supplier,
-}
-
-// What the lookup of one n-gram answers: its score, or that it is not listed.
+// What a lookup answers: the score of the n-gram, or that it is not listed.
 enum Score {
     Is(i64),
     Unlisted,
@@ -101,62 +95,33 @@ fn weight_of(index: &[u16], count: usize, key: Key) -> i64
     ngrams::weight_at(index, at - 1)
 }
 
-// The n-gram of so many words, as a supplier.
-fn supplier_by(order: usize) -> Supplier
-    ensures { λ r. ⌜ r ≡ supplierBy order ⌝ }
-{
-    if order == 3 {
-        return Supplier::Triple;
-    }
-    if order == 2 {
-        return Supplier::Pair;
-    }
-    Supplier::Word
-}
-
 // ---- the history grows shorter. Document 01's form: a lookup is taken apart by `let .. else`, and the missing case goes on
 
-// An n-gram that is not listed scores the weight of its history and the score of the words without the first, which go on to a shorter history
-// where they are not listed; a word scores u. A weight supplies nothing: who supplied the score of the shorter words supplied this.
-fn back_off(index: &[u16], m: LanguageModel, key: Key) -> Judged
+// The score of an n-gram that is not listed: the weight of its history and the score of the words without the first, which go on to a shorter history
+// where they are not listed; a word scores u.
+fn back_off(index: &[u16], m: LanguageModel, key: Key) -> i64
     requires { ⌜ IsModel (now index) m ⌝ }
     requires { ⌜ key ≡ keyOf (wordsOf key) ⌝ }
-    ensures { λ r. ⌜ r .score ≡ unlistedScore (m .unseen) (gramsIn (now (index .entry)) (m .count)) (wordsOf key) ⌝ }
-    ensures { λ r. ⌜ r .by ≡ unlistedSupplier (gramsIn (now (index .entry)) (m .count)) (wordsOf key) ⌝ }
+    ensures { λ r. ⌜ r ≡ unlistedScore (m .unseen) (gramsIn (now (index .entry)) (m .count)) (wordsOf key) ⌝ }
 {
     if key.order <= 1 {
-        return Judged {
-            score: m.unseen,
-            by: Supplier::Unseen,
-        };
+        return m.unseen;
     }
     let rest = rest_of(key);
     let weight = weight_of(index, m.count, history_of(key));
     let Score::Is(s) = lookup(index, m.count, rest) else {
-        let shorter = back_off(index, m, rest);
-        let by = shorter.by;
-        return Judged {
-            score: weight + shorter.score,
-            by,
-        };
+        return weight + back_off(index, m, rest);
     };
-    Judged {
-        score: weight + s,
-        by: supplier_by(rest.order),
-    }
+    weight + s
 }
 
-// The triple v, w, y where it is not listed: u where only triples are. (The model is copied here, for the call alone, so that a triple that is listed pays nothing for it.)
-fn unlisted(index: &[u16], m: LanguageModel, v: usize, w: usize, y: usize) -> Judged
+// The score of the triple v, w, y where it is not listed: u where only triples are. (The model is copied here, for the call alone, so that a triple that is listed pays nothing for it.)
+fn unlisted(index: &[u16], m: LanguageModel, v: usize, w: usize, y: usize) -> i64
     requires { ⌜ IsModel (now index) m ⌝ }
-    ensures { λ r. ⌜ r .score ≡ unlistedScore (m .unseen) (gramsIn (now (index .entry)) (m .count)) (v ∷ w ∷ y ∷ []) ⌝ }
-    ensures { λ r. ⌜ r .by ≡ unlistedSupplier (gramsIn (now (index .entry)) (m .count)) (v ∷ w ∷ y ∷ []) ⌝ }
+    ensures { λ r. ⌜ r ≡ unlistedScore (m .unseen) (gramsIn (now (index .entry)) (m .count)) (v ∷ w ∷ y ∷ []) ⌝ }
 {
     if m.shorter == 0 {
-        return Judged {
-            score: m.unseen,
-            by: Supplier::Unseen,
-        };
+        return m.unseen;
     }
     let model = LanguageModel {
         count: m.count,
@@ -166,17 +131,46 @@ fn unlisted(index: &[u16], m: LanguageModel, v: usize, w: usize, y: usize) -> Ju
     back_off(index, model, triple_key(v, w, y))
 }
 
-// The lookup of the triple v, w, y: its score, and who supplied it.
-pub fn judge(index: &[u16], m: LanguageModel, v: usize, w: usize, y: usize) -> Judged
+// The score of the triple v, w, y.
+pub fn triple_score(index: &[u16], m: LanguageModel, v: usize, w: usize, y: usize) -> i64
     requires { ⌜ IsModel (now index) m ⌝ }
-    ensures { λ r. ⌜ r .score ≡ backedOff (m .unseen) (gramsIn (now (index .entry)) (m .count)) v w y ⌝ }
-    ensures { λ r. ⌜ r .by ≡ supplier (gramsIn (now (index .entry)) (m .count)) v w y ⌝ }
+    ensures { λ r. ⌜ r ≡ backedOff (m .unseen) (gramsIn (now (index .entry)) (m .count)) v w y ⌝ }
 {
     let Score::Is(s) = lookup(index, m.count, triple_key(v, w, y)) else {
         return unlisted(index, m, v, w, y);
     };
-    Judged {
-        score: s,
-        by: Supplier::Triple,
+    s
+}
+
+// ---- who supplies the score
+
+// Whether the words of the key are listed.
+fn is_listed(index: &[u16], m: LanguageModel, key: Key) -> bool
+    requires { ⌜ IsModel (now index) m ⌝ }
+    requires { ⌜ key ≡ keyOf (wordsOf key) ⌝ }
+    ensures { λ r. ⌜ r ≡ isListed (gramsIn (now (index .entry)) (m .count)) (wordsOf key) ⌝ }
+{
+    if ngrams::find(index, m.count, key) == 0 {
+        return false;
     }
+    true
+}
+
+// Which of triple, pair, word or u supplies the score of the triple v, w, y: the first of them that is listed, as `triple_score` looks for them. The weights that it adds on its way supply nothing.
+pub fn supplier(index: &[u16], m: LanguageModel, v: usize, w: usize, y: usize) -> Supplier
+    requires { ⌜ IsModel (now index) m ⌝ }
+    ensures { λ r. ⌜ r ≡ supplier (gramsIn (now (index .entry)) (m .count)) v w y ⌝ }
+{
+    let triple = triple_key(v, w, y);
+    if is_listed(index, m, triple) {
+        return Supplier::Triple;
+    }
+    let pair = rest_of(triple);
+    if is_listed(index, m, pair) {
+        return Supplier::Pair;
+    }
+    if is_listed(index, m, rest_of(pair)) {
+        return Supplier::Word;
+    }
+    Supplier::Unseen
 }

@@ -12,7 +12,7 @@ use Rattle.judging.proofs.judge_words.Tie as tie
 use Rattle.judging.proofs.judge_words.Reads as reads
 use Rattle.judging.proofs.judge_words.Lts as lts
 use Rattle.judging.proofs.with_supplier.Reads as with-supplier-reads
-use Rattle.language.proofs.judge.Reads as judge-reads
+use Rattle.language.proofs.supplier.Reads as supplier-reads
 
 abbrev Inv-loop : tie.InvT-loop
 Inv-loop index t words s₀ v₀ w₀ i₀ s v w i =
@@ -33,8 +33,8 @@ shared-slice-read-y c = search needs
 cast-y : tie.Need-cast-y Inv-loop μ-loop
 cast-y c = omega (arith, c .shared-slice-known3 .given (c .before .before .loop .i))
 
-judge-requires : tie.Need-judge-requires Inv-loop μ-loop
-judge-requires c κs = c .before .before .before .before .before .pre
+supplier-requires : tie.Need-supplier-requires Inv-loop μ-loop
+supplier-requires c κs = c .before .before .before .before .before .pre
 
 with-supplier-requires : tie.Need-with-supplier-requires Inv-loop μ-loop
 with-supplier-requires c κs = let e = c .before .before .before .loop .inv .1 .0 in omega (arith, e, c .before .before .loop-test .taken)
@@ -50,7 +50,7 @@ loop-again c =
     let a = c .before .before .before .before .before .before .before .args in
     let l = c .before .before .before .before .loop in
     let h = c .before .before .before .loop-test .taken in
-    (omega (arith, h), (rw (c .with-supplier .ensures) (one-more (l .s) (c .before .judge .result .by) ∙ ap (λ (n : ℕ). n + 1) (l .inv .1 .0)), rw (c .with-supplier .ensures, c .before .judge .ensures .1) (sym (left-next (gramsIn (a .index .now) (a .t .model .count)) (a .words .now) (l .s) (l .v) (l .w) (l .i) h) ∙ l .inv .1 .1)))
+    (omega (arith, h), (rw (c .with-supplier .ensures) (one-more (l .s) (c .before .supplier .result) ∙ ap (λ (n : ℕ). n + 1) (l .inv .1 .0)), rw (c .with-supplier .ensures, c .before .supplier .ensures) (sym (left-next (gramsIn (a .index .now) (a .t .model .count)) (a .words .now) (l .s) (l .v) (l .w) (l .i) h) ∙ l .inv .1 .1)))
 
 returns : tie.Need-returns Inv-loop μ-loop
 returns c =
@@ -69,7 +69,7 @@ judge-words-spec =
     mul-y
     shared-slice-read-y
     cast-y
-    judge-requires
+    supplier-requires
     with-supplier-requires
     add-i
     loop-less

@@ -1,9 +1,8 @@
 -- The proof of the recursion `back_off`. The measure is how many words the n-gram has.
-use Prim.Native.Nat.{ℕ, _+_, _*_, _≤_, _<_}
+use Prim.Native.Nat.{ℕ, _+_, _*_, _<_}
 use native.Mathlib.Omega.{arith}
 use mathlib.Core.Path.{_≡_, sym, ap, _∙_, subst}
-use mathlib.Core.Bool.{cond}
-use mathlib.Core.List.{List, dropLast}
+use mathlib.Core.List.{dropLast}
 use lib.IntN.{ℤ, _+ℤ_}
 use lib.ListN.{length, drop, length-drop}
 use mir.Facts.{toZ-ofZ}
@@ -15,22 +14,19 @@ use Rattle.laws.specs.Integers.{Within}
 use Rattle.laws.proofs.Bounds.{within-fits}
 use Rattle.laws.proofs.Got.{i64, Got, held, add, kept, fits}
 use Rattle.meaning.specs.Bounds.{scoreMost}
-use Rattle.meaning.specs.Book.{Gram}
-use Rattle.meaning.specs.Derivation.{scoreOr, weight, isListed}
-use Rattle.meaning.specs.declared.Supplier.{Supplier}
+use Rattle.meaning.specs.Derivation.{scoreOr, weight}
 use Rattle.meaning.proofs.Bounds.{weight-within}
 use Rattle.ngrams.specs.declared.Key.{Key}
 use Rattle.ngrams.specs.Grams.{wordsOf, keyOf, gramsIn}
 use Rattle.ngrams.proofs.Keys.{words-back, words-few}
-use Rattle.language.specs.Language.{latestScore, latestWeight, unlistedScore, supplierBy, unlistedSupplier, Shortens}
-use Rattle.language.proofs.Scores.{weight-listed, score-listed, other-listed, is-listed, not-listed, words-some, as-many, drop-last-long, unlisted-word, unlisted-more, supplier-word, supplier-more, rest-within}
+use Rattle.language.specs.Language.{latestScore, latestWeight, unlistedScore, Shortens}
+use Rattle.language.proofs.Scores.{weight-listed, score-listed, other-listed, words-some, as-many, drop-last-long, unlisted-word, unlisted-more, rest-within}
 use Rattle.language.proofs.back_off.Reads as back-off
 use Rattle.language.proofs.back_off.Kinds as back-off-kinds
 use Rattle.language.proofs.+back_off.Lts-back_off as back-off-lts
 use Rattle.language.proofs.history_of.Reads as history-of-reads
 use Rattle.language.proofs.lookup.Reads as lookup-reads
 use Rattle.language.proofs.rest_of.Reads as rest-of-reads
-use Rattle.language.proofs.supplier_by.Reads as supplier-by-reads
 use Rattle.language.proofs.weight_of.Reads as weight-of-reads
 use Rattle.language.proofs.+back_off.{statement}
 use Rattle.language.proofs.+back_off.Tie.{close}
@@ -46,27 +42,13 @@ abbrev below : ℕ → In 1 back-off-kinds.ps
 below t = and 1 back-off-kinds.ps (falls 1 back-off-kinds.ps _<_ μ t) back-off.Pre
 
 abbrev claims : ℕ → back-off-lts.Claims
-claims t = (rest-of-reads.Asked, rest-of-reads.Learnt, history-of-reads.Asked, history-of-reads.Learnt, weight-of-reads.Asked, weight-of-reads.Learnt, lookup-reads.Asked, lookup-reads.Learnt, below t, back-off.Post, supplier-by-reads.Asked, supplier-by-reads.Learnt)
+claims t = (rest-of-reads.Asked, rest-of-reads.Learnt, history-of-reads.Asked, history-of-reads.Learnt, weight-of-reads.Asked, weight-of-reads.Learnt, lookup-reads.Asked, lookup-reads.Learnt, below t, back-off.Post)
 
 module _ (t : ℕ) where
-  -- the n-grams, u, and the words of the key
-  abbrev Start : Type 0
-  Start = back-off-lts.Start (claims t) (at t) back-off.Post
-
-  abbrev grams : Start → List Gram
-  grams s = gramsIn (s .args .index .now) (s .args .m .count)
-
-  abbrev words : Start → List ℕ
-  words s = wordsOf (s .args .key)
-
-  abbrev rest : Start → List ℕ
-  rest s = drop 1 (words s)
-
   returns : back-off-lts.Need-returns (claims t) (at t) back-off.Post
   returns c =
-      let s : Start = c .before .before .before .before in
-      let one : length (words s) ≤ 1 = omega (arith, c .before .if1 .taken, as-many (s .pre .1 .1)) in
-      (toZ-ofZ (within-fits w64 {B = scoreMost} (s .pre .1 .0 .unseen-within) (omega arith)) ∙ sym (unlisted-word (s .args .m .unseen) (grams s) (words s) one), sym (supplier-word (s .args .m .unseen) (grams s) (words s) one))
+      toZ-ofZ (within-fits w64 {B = scoreMost} ((c .before .before .before .before .pre .1 .0) .unseen-within) (omega arith))
+      ∙ sym (unlisted-word (c .before .before .before .before .args .m .unseen) (gramsIn (c .before .before .before .before .args .index .now) (c .before .before .before .before .args .m .count)) (wordsOf (c .before .before .before .before .args .key)) (omega (arith, c .before .if1 .taken, as-many (c .before .before .before .before .pre .1 .1))))
 
   -- there are two words or three
   shortens : (c : back-off-lts.After-struct-known (claims t) (at t) back-off.Post) → 1 < c .before .before .args .key .order → Shortens (c .before .before .args .key)
@@ -90,104 +72,60 @@ module _ (t : ℕ) where
   enum-told : back-off-lts.Need-enum-told (claims t) (at t) back-off.Post
   enum-told c = search needs
 
-  -- what is known where the words without the first are looked up
-  abbrev Looked : Type 0
-  Looked = back-off-lts.After-lookup (claims t) (at t) back-off.Post
+  -- the words without the first are fewer, and a key of their own
+  rest-words : (c : back-off-lts.After-rest-of (claims t) (at t) back-off.Post) → wordsOf (c .rest-of .result) ≡ drop 1 (wordsOf (c .before .before .before .before .args .key))
+  rest-words c = ap wordsOf (c .rest-of .ensures) ∙ words-back (drop 1 (wordsOf (c .before .before .before .before .args .key))) (omega (arith, length-drop 1 (wordsOf (c .before .before .before .before .args .key)), words-few (c .before .before .before .before .args .key)))
 
-  abbrev start : Looked → Start
-  start c = c .before .before .before .before .before .before .before
-
-  module _ (c : Looked) where
-    shorter : Shortens (start c .args .key)
-    shorter = shortens (c .before .before .before .before .before) (c .before .before .before .before .if1 .left)
-
-    rest-few : length (rest (start c)) ≤ 3
-    rest-few = omega (arith, length-drop 1 (words (start c)), words-few (start c .args .key))
-
-    -- the words without the first are fewer, and a key of their own
-    rest-words : wordsOf (c .before .before .before .rest-of .result) ≡ rest (start c)
-    rest-words = ap wordsOf (c .before .before .before .rest-of .ensures) ∙ words-back (rest (start c)) rest-few
-
-    rest-long : c .before .before .before .rest-of .result .order ≡ length (rest (start c))
-    unfolding keyOf
-    rest-long = ap (λ (k : Key). k .order) (c .before .before .before .rest-of .ensures)
-
-    rest-order : c .before .before .before .rest-of .result .order < start c .args .key .order
-    rest-order =
-        omega (arith, rest-long, length-drop 1 (words (start c)), as-many (start c .pre .1 .1), c .before .before .before .before .if1 .left)
-
-    -- the weight
-    weight-is : c .before .weight-of .result ≡ weight (grams (start c)) (dropLast (words (start c)))
-    weight-is =
-        c .before .weight-of .ensures ∙ ap (latestWeight (start c .args .index .now) (start c .args .m .count)) (c .before .before .history-of .ensures)
-        ∙ weight-listed (start c .pre .1 .0 .listing) (dropLast (words (start c))) (omega (arith, drop-last-long (words (start c)), words-few (start c .args .key)))
-
-    -- what the lookup of those words gave
-    looked : {x : _} → x ≡ c .lookup .result → x ≡ latestScore (start c .args .index .now) (start c .args .m .count) (keyOf (rest (start c)))
-    looked e = e ∙ c .lookup .ensures ∙ ap (latestScore (start c .args .index .now) (start c .args .m .count)) (c .before .before .before .rest-of .ensures)
-
-    -- the sum, once it is known that r is the score of the words without the first
-    total : (r : ℤ) → r ≡ scoreOr (grams (start c)) (unlistedScore (start c .args .m .unseen) (grams (start c)) (rest (start c))) (rest (start c))
-        → Got (scoreMost + 2 * scoreMost) (i64 (c .before .weight-of .result) +ℤ i64 r) (unlistedScore (start c .args .m .unseen) (grams (start c)) (words (start c)))
-    total r e =
-        let u = start c .args .m .unseen in
-        let m = start c .pre .1 .0 in
-        let sum = add (kept w64 (held weight-is (weight-within u (grams (start c)) (m .unseen-within) (m .grams-within) (dropLast (words (start c))))) (omega arith)) (kept w64 (held e (rest-within u (grams (start c)) (m .unseen-within) (m .grams-within) (words (start c)) (words-few (start c .args .key)))) (omega arith)) in
-        let z = unlisted-more u (grams (start c)) (words (start c)) (words-some shorter) (words-few (start c .args .key)) in
-        record { is = sum .is ∙ z; within = subst (Within (scoreMost + 2 * scoreMost)) z (sum .within) }
-
-    -- who supplies it, once it is known whether they are listed
-    supplied : (x : Supplier) → x ≡ cond (isListed (grams (start c)) (rest (start c))) (supplierBy (length (rest (start c)))) (unlistedSupplier (grams (start c)) (rest (start c)))
-        → x ≡ unlistedSupplier (grams (start c)) (words (start c))
-    supplied x e = e ∙ supplier-more (start c .args .m .unseen) (grams (start c)) (words (start c)) (words-some shorter) (words-few (start c .args .key))
+  rest-order : (c : back-off-lts.After-rest-of (claims t) (at t) back-off.Post) → c .rest-of .result .order < c .before .before .before .before .args .key .order
+  unfolding keyOf
+  rest-order c =
+      let e : c .rest-of .result .order ≡ length (drop 1 (wordsOf (c .before .before .before .before .args .key))) = ap (λ (k : Key). k .order) (c .rest-of .ensures) in
+      omega (arith, e, length-drop 1 (wordsOf (c .before .before .before .before .args .key)), as-many (c .before .before .before .before .pre .1 .1), c .before .if1 .left)
 
   back-off-requires : back-off-lts.Need-back-off-requires (claims t) (at t) back-off.Post
-  back-off-requires c κs =
-      let l : Looked = c .before .before in
-      (omega (arith, rest-order l, start l .pre .0), (start l .pre .1 .0, l .before .before .before .rest-of .ensures ∙ ap keyOf (sym (rest-words l))))
+  back-off-requires c κs = (omega (arith, rest-order (c .before .before .before .before .before), c .before .before .before .before .before .before .before .before .before .pre .0), ((c .before .before .before .before .before .before .before .before .before .pre .1 .0), c .before .before .before .before .before .rest-of .ensures ∙ ap keyOf (sym (rest-words (c .before .before .before .before .before)))))
+
+  -- the weight
+  weight-is : (c : back-off-lts.After-weight-of (claims t) (at t) back-off.Post) → c .weight-of .result ≡ weight (gramsIn (c .before .before .before .before .before .before .args .index .now) (c .before .before .before .before .before .before .args .m .count)) (dropLast (wordsOf (c .before .before .before .before .before .before .args .key)))
+  weight-is c =
+      c .weight-of .ensures ∙ ap (latestWeight (c .before .before .before .before .before .before .args .index .now) (c .before .before .before .before .before .before .args .m .count)) (c .before .history-of .ensures)
+      ∙ weight-listed (c .before .before .before .before .before .before .pre .1 .0 .listing) (dropLast (wordsOf (c .before .before .before .before .before .before .args .key))) (omega (arith, drop-last-long (wordsOf (c .before .before .before .before .before .before .args .key)), words-few (c .before .before .before .before .before .before .args .key)))
+
+  -- the sum, once it is known that r is the score of the words without the first
+  total : (c : back-off-lts.After-lookup (claims t) (at t) back-off.Post) (r : ℤ)
+      → r ≡ scoreOr (gramsIn (c .before .before .before .before .before .before .before .args .index .now) (c .before .before .before .before .before .before .before .args .m .count)) (unlistedScore (c .before .before .before .before .before .before .before .args .m .unseen) (gramsIn (c .before .before .before .before .before .before .before .args .index .now) (c .before .before .before .before .before .before .before .args .m .count)) (drop 1 (wordsOf (c .before .before .before .before .before .before .before .args .key)))) (drop 1 (wordsOf (c .before .before .before .before .before .before .before .args .key)))
+      → Got (scoreMost + 2 * scoreMost) (i64 (c .before .weight-of .result) +ℤ i64 r) (unlistedScore (c .before .before .before .before .before .before .before .args .m .unseen) (gramsIn (c .before .before .before .before .before .before .before .args .index .now) (c .before .before .before .before .before .before .before .args .m .count)) (wordsOf (c .before .before .before .before .before .before .before .args .key)))
+  total c r e =
+      let sum = add (kept w64 (held (weight-is (c .before)) (weight-within (c .before .before .before .before .before .before .before .args .m .unseen) (gramsIn (c .before .before .before .before .before .before .before .args .index .now) (c .before .before .before .before .before .before .before .args .m .count)) ((c .before .before .before .before .before .before .before .pre .1 .0) .unseen-within) ((c .before .before .before .before .before .before .before .pre .1 .0) .grams-within) (dropLast (wordsOf (c .before .before .before .before .before .before .before .args .key))))) (omega arith)) (kept w64 (held e (rest-within (c .before .before .before .before .before .before .before .args .m .unseen) (gramsIn (c .before .before .before .before .before .before .before .args .index .now) (c .before .before .before .before .before .before .before .args .m .count)) ((c .before .before .before .before .before .before .before .pre .1 .0) .unseen-within) ((c .before .before .before .before .before .before .before .pre .1 .0) .grams-within) (wordsOf (c .before .before .before .before .before .before .before .args .key)) (words-few (c .before .before .before .before .before .before .before .args .key)))) (omega arith)) in
+      let z = unlisted-more (c .before .before .before .before .before .before .before .args .m .unseen) (gramsIn (c .before .before .before .before .before .before .before .args .index .now) (c .before .before .before .before .before .before .before .args .m .count)) (wordsOf (c .before .before .before .before .before .before .before .args .key)) (words-some (shortens (c .before .before .before .before .before) (c .before .before .before .before .if1 .left))) (words-few (c .before .before .before .before .before .before .before .args .key)) in
+      record { is = sum .is ∙ z; within = subst (Within (scoreMost + 2 * scoreMost)) z (sum .within) }
 
   -- the words without the first are not listed, and went on
-  module _ (c : back-off-lts.After-back-off (claims t) (at t) back-off.Post) where
-    abbrev missed : Looked
-    missed = c .before .before .before
-
-    gone : c .back-off .result .score ≡ scoreOr (grams (start missed)) (unlistedScore (start missed .args .m .unseen) (grams (start missed)) (rest (start missed))) (rest (start missed))
-    gone =
-        c .back-off .ensures .0 ∙ ap (unlistedScore (start missed .args .m .unseen) (grams (start missed))) (rest-words missed)
-        ∙ other-listed (start missed .pre .1 .0 .listing) (rest (start missed)) (rest-few missed) _ (looked missed (sym (c .before .enum-told .given .1)))
-
-    gone-by : c .back-off .result .by ≡ unlistedSupplier (grams (start missed)) (words (start missed))
-    gone-by =
-        supplied missed (c .back-off .result .by)
-        (rw (not-listed (start missed .pre .1 .0 .listing) (rest (start missed)) (rest-few missed) (looked missed (sym (c .before .enum-told .given .1)))) (c .back-off .ensures .1 ∙ ap (unlistedSupplier (grams (start missed))) (rest-words missed)))
+  gone : (c : back-off-lts.After-back-off (claims t) (at t) back-off.Post)
+      → c .back-off .result ≡ scoreOr (gramsIn (c .before .before .before .before .before .before .before .before .before .before .args .index .now) (c .before .before .before .before .before .before .before .before .before .before .args .m .count)) (unlistedScore (c .before .before .before .before .before .before .before .before .before .before .args .m .unseen) (gramsIn (c .before .before .before .before .before .before .before .before .before .before .args .index .now) (c .before .before .before .before .before .before .before .before .before .before .args .m .count)) (drop 1 (wordsOf (c .before .before .before .before .before .before .before .before .before .before .args .key)))) (drop 1 (wordsOf (c .before .before .before .before .before .before .before .before .before .before .args .key)))
+  gone c =
+      c .back-off .ensures ∙ ap (unlistedScore (c .before .before .before .before .before .before .before .before .before .before .args .m .unseen) (gramsIn (c .before .before .before .before .before .before .before .before .before .before .args .index .now) (c .before .before .before .before .before .before .before .before .before .before .args .m .count))) (rest-words (c .before .before .before .before .before .before))
+      ∙ other-listed (c .before .before .before .before .before .before .before .before .before .before .pre .1 .0 .listing) (drop 1 (wordsOf (c .before .before .before .before .before .before .before .before .before .before .args .key))) (omega (arith, length-drop 1 (wordsOf (c .before .before .before .before .before .before .before .before .before .before .args .key)), words-few (c .before .before .before .before .before .before .before .before .before .before .args .key))) _
+      (sym (c .before .enum-told .given .1) ∙ c .before .before .before .lookup .ensures ∙ ap (latestScore (c .before .before .before .before .before .before .before .before .before .before .args .index .now) (c .before .before .before .before .before .before .before .before .before .before .args .m .count)) (c .before .before .before .before .before .before .rest-of .ensures))
 
   -- or listed
-  module _ (c : back-off-lts.After-known-told (claims t) (at t) back-off.Post) where
-    abbrev hit : Looked
-    hit = c .before .before .before
+  got : (c : back-off-lts.After-known-told (claims t) (at t) back-off.Post)
+      → c .before .s .given .0 .0 ≡ scoreOr (gramsIn (c .before .before .before .before .before .before .before .before .before .before .args .index .now) (c .before .before .before .before .before .before .before .before .before .before .args .m .count)) (unlistedScore (c .before .before .before .before .before .before .before .before .before .before .args .m .unseen) (gramsIn (c .before .before .before .before .before .before .before .before .before .before .args .index .now) (c .before .before .before .before .before .before .before .before .before .before .args .m .count)) (drop 1 (wordsOf (c .before .before .before .before .before .before .before .before .before .before .args .key)))) (drop 1 (wordsOf (c .before .before .before .before .before .before .before .before .before .before .args .key)))
+  got c =
+      score-listed (c .before .before .before .before .before .before .before .before .before .before .pre .1 .0 .listing) (drop 1 (wordsOf (c .before .before .before .before .before .before .before .before .before .before .args .key))) (omega (arith, length-drop 1 (wordsOf (c .before .before .before .before .before .before .before .before .before .before .args .key)), words-few (c .before .before .before .before .before .before .before .before .before .before .args .key))) _ _
+      (sym (c .before .s .given .1) ∙ c .before .before .before .lookup .ensures ∙ ap (latestScore (c .before .before .before .before .before .before .before .before .before .before .args .index .now) (c .before .before .before .before .before .before .before .before .before .before .args .m .count)) (c .before .before .before .before .before .before .rest-of .ensures))
 
-    got : c .before .s .given .0 .0 ≡ scoreOr (grams (start hit)) (unlistedScore (start hit .args .m .unseen) (grams (start hit)) (rest (start hit))) (rest (start hit))
-    got = score-listed (start hit .pre .1 .0 .listing) (rest (start hit)) (rest-few hit) _ _ (looked hit (sym (c .before .s .given .1)))
-
-    got-by : supplierBy (hit .before .before .before .rest-of .result .order) ≡ unlistedSupplier (grams (start hit)) (words (start hit))
-    got-by =
-        supplied hit (supplierBy (hit .before .before .before .rest-of .result .order))
-        (rw (is-listed (start hit .pre .1 .0 .listing) (rest (start hit)) (rest-few hit) (c .before .s .given .0 .0) (looked hit (sym (c .before .s .given .1)))) (ap supplierBy (rest-long hit)))
-
-  add-t13 : back-off-lts.Need-add-t13 (claims t) (at t) back-off.Post
-  add-t13 c = fits (total (missed (c .before .before)) (c .before .before .back-off .result .score) (gone (c .before .before))) (omega arith)
+  add-result : back-off-lts.Need-add-result (claims t) (at t) back-off.Post
+  add-result c = fits (total (c .before .before .before) (c .back-off .result) (gone c)) (omega arith)
 
   returns-2 : back-off-lts.Need-returns-2 (claims t) (at t) back-off.Post
-  returns-2 c = (kept w64 (total (missed (c .before .before)) (c .before .before .back-off .result .score) (gone (c .before .before))) (omega arith) .is, gone-by (c .before .before))
+  returns-2 c = kept w64 (total (c .before .before .before) (c .back-off .result) (gone c)) (omega arith) .is
 
-  add-t14 : back-off-lts.Need-add-t14 (claims t) (at t) back-off.Post
-  add-t14 c = fits (total (hit c) (c .before .s .given .0 .0) (got c)) (omega arith)
-
-  supplier-by-requires : back-off-lts.Need-supplier-by-requires (claims t) (at t) back-off.Post
-  supplier-by-requires c κs = search needs
+  add-result-2 : back-off-lts.Need-add-result-2 (claims t) (at t) back-off.Post
+  add-result-2 c = fits (total (c .before .before .before) (c .before .s .given .0 .0) (got c)) (omega arith)
 
   returns-3 : back-off-lts.Need-returns-3 (claims t) (at t) back-off.Post
-  returns-3 c = (kept w64 (total (hit (c .before)) (c .before .before .s .given .0 .0) (got (c .before))) (omega arith) .is, c .supplier-by .ensures ∙ got-by (c .before))
+  returns-3 c = kept w64 (total (c .before .before .before) (c .before .s .given .0 .0) (got c)) (omega arith) .is
 
 pub +back-off-spec : {M : Type 1} → statement M
 +back-off-spec =
@@ -201,8 +139,7 @@ pub +back-off-spec : {M : Type 1} → statement M
     (enum-known-s t)
     (enum-told t)
     (back-off-requires t)
-    (add-t13 t)
+    (add-result t)
     (returns-2 t)
-    (add-t14 t)
-    (supplier-by-requires t)
+    (add-result-2 t)
     (returns-3 t)

@@ -8,11 +8,12 @@ use mir.Facts.{toZ-ofZ}
 use mir.Syntax.{w64}
 use Rattle.laws.proofs.Bounds.{within-fits}
 use Rattle.laws.proofs.Got.{i64}
+use Rattle.laws.proofs.Linear.{told}
 use Rattle.meaning.specs.Bounds.{scoreMost}
 use Rattle.ngrams.specs.Grams.{wordsOf, keyOf, gramsIn}
 use Rattle.ngrams.proofs.Keys.{words-back}
-use Rattle.language.specs.Language.{unlistedScore, unlistedSupplier}
-use Rattle.language.proofs.Scores.{backs-to-u, backs-to-unseen, unlisted-triple}
+use Rattle.language.specs.Language.{unlistedScore}
+use Rattle.language.proofs.Scores.{backs-to-u, unlisted-triple}
 use borrow.Author.Needs.{needs}
 use Rattle.language.proofs.unlisted.Statement.{statement}
 use Rattle.language.proofs.unlisted.Tie as tie
@@ -23,9 +24,8 @@ u-is c = toZ-ofZ (within-fits w64 {B = scoreMost} (c .pre .unseen-within) (omega
 
 returns : tie.Need-returns
 returns c =
-    let s : tie.Start = c .before .before .before .before in
-    let grams = gramsIn (s .args .index .now) (s .args .m .count) in
-    (u-is s ∙ sym (unlisted-triple (s .args .m .unseen) grams (s .args .v) (s .args .w) (s .args .y) ∙ backs-to-u (s .pre .listing) (c .before .if1 .taken) (s .args .m .unseen) (s .args .v) (s .args .w) (s .args .y)), backs-to-unseen (s .pre .listing) (c .before .if1 .taken) (s .args .v) (s .args .w) (s .args .y))
+    u-is (c .before .before .before .before)
+    ∙ sym (unlisted-triple (c .before .before .before .before .args .m .unseen) (gramsIn (c .before .before .before .before .args .index .now) (c .before .before .before .before .args .m .count)) (c .before .before .before .before .args .v) (c .before .before .before .before .args .w) (c .before .before .before .before .args .y) ∙ backs-to-u (c .before .before .before .before .pre .listing) (c .before .if1 .taken) (c .before .before .before .before .args .m .unseen) (c .before .before .before .before .args .v) (c .before .before .before .before .args .w) (c .before .before .before .before .args .y))
 
 triple-key-requires : tie.Need-triple-key-requires
 triple-key-requires c κs = search needs
@@ -38,10 +38,7 @@ back-off-requires : tie.Need-back-off-requires
 back-off-requires c κs = (rw (u-is (c .before .before .before .before .before)) (c .before .before .before .before .before .pre), c .triple-key .ensures ∙ ap keyOf (sym (words (c))))
 
 returns-2 : tie.Need-returns-2
-returns-2 c =
-    let s : tie.Start = c .before .before .before .before .before .before in
-    let grams = gramsIn (s .args .index .now) (s .args .m .count) in
-    (c .back-off .ensures .0 ∙ ap₂ (λ (u : ℤ) (ws : List ℕ). unlistedScore u grams ws) (u-is s) (words (c .before)), c .back-off .ensures .1 ∙ ap (unlistedSupplier grams) (words (c .before)))
+returns-2 c = toZ-ofZ (told (c .back-off .ok)) ∙ c .back-off .ensures ∙ ap₂ (λ (u : ℤ) (ws : List ℕ). unlistedScore u (gramsIn (c .before .before .before .before .before .before .args .index .now) (c .before .before .before .before .before .before .args .m .count)) ws) (u-is (c .before .before .before .before .before .before)) (words (c .before))
 
 pub unlisted-spec : {M : Type 1} → statement M
 unlisted-spec = tie.close (tie.spec returns triple-key-requires back-off-requires returns-2)
