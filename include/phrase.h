@@ -4,7 +4,7 @@
  * question whose answer was no (docs/REFUSALS.md). No call keeps a pointer, allocates, or touches a list beyond its length.
  * A list that a call may write (book or direction of a reading, steps, words, store, report) must not overlap another list of the same call;
  * lists that are only read may. A pointer is aligned for its type, and not null even where the length is 0.
- * A decode takes 756,000 bytes of stack, a scoring 493,000, reading or checking a book and the two target calls 477,000, reading a direction
+ * A decode takes 756,000 bytes of stack, a scoring 494,000, reading or checking a book and the two target calls 477,000, reading a direction
  * fewer than 1,000.
  *
  * A loaded book is a list of signed 32-bit numbers. Calls after phrase_read_book are lent just the numbers that it wrote.

@@ -1,4 +1,4 @@
-// Scoring a proposed list on plain numbers, with what the book and the direction say in a local array: about 493,000 bytes of stack.
+// Scoring a proposed list on plain numbers, with what the book and the direction say in a local array: about 494,000 bytes of stack.
 use book::entries::INDEX_SIZE;
 use meaning::Scored;
 use opening::Start;
