@@ -15,9 +15,9 @@ pub struct Setup {
     pub model: LanguageModel,
 }
 
-// A row of target words: the sum of the scores of the triples that they end, and the last two words.
+// A row of target words: the sum of the scores of the triples that they end, within wordsBound, and the last two words.
 pub struct Row {
-    pub score: i64,
+    pub score: i32,
     pub word1: u16,
     pub word2: u16,
 }

@@ -3,21 +3,21 @@ use crate::Phrase;
 use crate::Row;
 use crate::Setup;
 ghost use mathlib.Core.Path.{_≡_};
-ghost use Prim.Native.Nat.{_+_, _<_};
+ghost use Prim.Native.Nat.{_+_, _-_, _<_};
 ghost use lib.ListN.{length};
 ghost use Rattle.laws.specs.Integers.{Within};
-ghost use Rattle.meaning.specs.Bounds.{wordsBound};
+ghost use Rattle.meaning.specs.Bounds.{tripleBound, wordsBound};
 ghost use Rattle.meaning.specs.Book.{Entry};
 ghost use Rattle.derivation.specs.Model.{Model, wordIn, emptyRow, withWord, withWords, PhraseOf, Phrased};
 
-// One target word more.
+// One target word more. The sum stays within wordsBound, 24,000,000, so 32 bits hold it: there is room for one triple's score, tripleBound.
 fn add_word(index: &[u16], t: Setup, s: Row, y: u16) -> Row
     requires { ⌜ Model (now index) t ⌝ }
-    requires { ⌜ Within wordsBound (s .score) ⌝ }
+    requires { ⌜ Within (wordsBound - tripleBound) (s .score) ⌝ }
     ensures { λ r. ⌜ r ≡ withWord (now (index .entry)) t s y ⌝ }
 {
-    let old = s.score;
-    let gain = language::triple_score(
+    let sum = s.score;
+    let triple = language::triple_score(
         index,
         t.model,
         s.word1 as usize,
@@ -25,7 +25,7 @@ fn add_word(index: &[u16], t: Setup, s: Row, y: u16) -> Row
         y as usize,
     );
     Row {
-        score: old + gain,
+        score: sum + triple as i32,
         word1: s.word2,
         word2: y,
     }

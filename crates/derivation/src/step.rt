@@ -31,7 +31,7 @@ fn gain(t: Setup, p: Phrase, far: usize, row: Row) -> i64
     let g = p.g;
     let eta = t.eta;
     let words = row.score;
-    g + eta * far as i64 + words
+    g + eta * far as i64 + words as i64
 }
 
 // The state after the entry's step over the positions first to last, which are free; its target words make the row.
