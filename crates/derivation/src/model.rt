@@ -10,7 +10,8 @@ ghost use Rattle.meaning.specs.Bounds.{tripleBound, wordsBound};
 ghost use Rattle.meaning.specs.Book.{Entry};
 ghost use Rattle.derivation.specs.Model.{Model, wordIn, emptyRow, withWord, withWords, PhraseOf, Phrased};
 
-// One target word more. The sum stays within wordsBound, 24,000,000, so 32 bits hold it: there is room for one triple's score, tripleBound.
+// One target word more: the score of the triple that it ends comes to the sum. 32 bits hold it: it stays within wordsBound, 24,000,000, since there was
+// room for one triple's score. (Ticket 4; g and eta × jump are no part of the sum, they come to it in `step::gain`, in 64 bits.)
 fn add_word(index: &[u16], t: Setup, s: Row, y: u16) -> Row
     requires { ⌜ Model (now index) t ⌝ }
     requires { ⌜ Within (wordsBound - tripleBound) (s .score) ⌝ }
@@ -43,7 +44,7 @@ pub fn word_at(book: &[i32], k: usize) -> u16
     (x as usize % lines::WORD_SPAN) as u16
 }
 
-// The row of the entry's target words after the words word1 and word2.
+// The row of the entry's target words after the words word1 and word2. They stand side by side in the book.
 pub fn row_of(book: &[i32], index: &[u16], t: Setup, p: Phrase, word1: u16, word2: u16) -> Row
     requires { ⌜ Model (now index) t ⌝ }
     requires { ⌜ Phrased (now book) p ⌝ }
@@ -55,11 +56,11 @@ pub fn row_of(book: &[i32], index: &[u16], t: Setup, p: Phrase, word1: u16, word
         word1,
         word2,
     };
-    let mut j = 0;
-    while j < p.count {
-        let y = word_at(book, p.target + j);
+    let mut k = p.target;
+    while k < p.target + p.count {
+        let y = word_at(book, k);
         s = add_word(index, t, s, y);
-        j += 1;
+        k += 1;
     }
     s
 }

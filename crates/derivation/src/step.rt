@@ -23,7 +23,7 @@ pub fn jump(r: usize, first: usize) -> usize
     }
 }
 
-// What a step adds to a score: the entry's, the penalty of its jump, and what its target words say.
+// What a step adds to a score: the entry's, the penalty of its jump, and what its target words say, a sum within wordsBound.
 fn gain(t: Setup, p: Phrase, far: usize, row: Row) -> i64
     requires { ⌜ (Within penaltyMost (t .eta)) × ((Within scoreMost (p .g)) × ((far ≤ 32) × (Within wordsBound (row .score)))) ⌝ }
     ensures { λ r. ⌜ (r ≡ gainBy t p far row) × Within gainBound r ⌝ }

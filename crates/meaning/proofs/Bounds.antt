@@ -1,4 +1,4 @@
--- No step adds more than 25,320,000 to a score on either side of 0.
+-- No phrase's target words add more than 24,000,000 to a score on either side of 0, and no step more than 25,320,000.
 use Prim.Native.Nat.{ℕ, _+_, _*_, _≤_}
 use native.Mathlib.Omega.{arith}
 use mathlib.Core.Path.{_≡_, refl}
@@ -57,13 +57,16 @@ module _ (book : Book) (R : Ranged book) where
   words-within v w [] = omega arith
   words-within v w (y ∷ ys) = within-mono (omega arith) (within-+ (triple-within v w y) (words-within w y ys))
 
+  -- what the triples that a phrase's target words end can add, after any two words: it has at most 8
+  pub phrase-within : (k v w : ℕ) → Within wordsBound (wordsScore book v w (entryAt book k .target))
+  phrase-within k v w = within-mono (let few : length (entryAt book k .target) ≤ 8 = R .target-to k in omega arith) (words-within v w (entryAt book k .target))
+
   -- a step that may extend a state jumps at most d, which is at most 32
   pub gain-within : (direction : List ℕ) (k : Key) (step : Step) → mayExtend book direction k step ≡ true → Within gainBound (gain book k step)
   unfolding mayExtend gain
   gain-within direction k step e =
       let near : jump (k .r) step ≤ book .limit = leb-true _ _ (both (fits book direction step && isFree step 1 (k .covered)) _ e .1) in
       let few : jump (k .r) step ≤ 32 = (let d = R .limit-to in omega arith) in
-      let target : length (entryAt book (step .entry) .target) ≤ 8 = R .target-to (step .entry) in
       within-+ {A = scoreMost + penaltyMost * 32} {B = wordsBound}
       (within-+ (R .g-within (step .entry)) (within-* (R .eta-within) (within-mono few (within-pos (jump (k .r) step)))))
-      (within-mono (omega arith) (words-within (k .word1) (k .word2) (entryAt book (step .entry) .target)))
+      (phrase-within (step .entry) (k .word1) (k .word2))

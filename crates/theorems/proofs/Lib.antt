@@ -2,3 +2,4 @@ pub mod Base
 pub mod LineCount
 pub mod Supplying
 pub mod Otherwise
+pub mod Narrow

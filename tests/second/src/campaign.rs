@@ -88,7 +88,8 @@ pub fn run(seed: u64, count: usize) -> Tally {
     tally
 }
 
-/// An answer is what 01 and ticket 3 of 02 say of it: valid steps, their score, their words, and four counts that add up to these.
+/// An answer is what 01 and tickets 3 and 4 of 02 say of it: valid steps, their score, phrase by phrase too, their words, and four counts that add
+/// up to these.
 fn check_answer(list: &[i32], book: &Book, direction: &[u16], answer: &Answer) {
     assert!(
         plain::valid(book, direction, &answer.steps),
@@ -104,6 +105,8 @@ fn check_answer(list: &[i32], book: &Book, direction: &[u16], answer: &Answer) {
         "{list:?} {direction:?}"
     );
     assert_eq!(score(list, direction, &answer.steps), Ok(scored));
+    let by_phrases = plain::score_by_phrases(book, &answer.steps);
+    assert_eq!(by_phrases, answer.score, "{list:?} {direction:?}");
     assert_eq!(plain::words_of(book, &answer.steps), answer.words);
     let all: usize = answer.supplied.iter().sum();
     assert_eq!(all, answer.words.len());

@@ -57,6 +57,9 @@ pub struct Shape {
     /// Scores and eta are drawn from these, entries repeated and put together: ties and pruning are
     /// frequent. None: any scores.
     pub ties: &'static [i64],
+    /// Where it is not 0, and there are no ties: the end of the range at which most scores and
+    /// weights are, so that what a phrase's words score sums up to millions.
+    pub end: i64,
 }
 
 /// What a shape with ties draws its scores from.
@@ -85,6 +88,7 @@ impl Shape {
             max_target: rng.pick(&[1, 2, 3, 3, 8]),
             max_direction: 6,
             ties,
+            end: rng.pick(&[0, 0, 0, 0, 0, 0, -1_000_000, 1_000_000]),
         }
     }
 
@@ -125,6 +129,7 @@ impl Shape {
         match rng.below(8) {
             0 => rng.pick(&[-1_000_000, 1_000_000, 0, -999_999, 999_999]),
             1 => rng.between(-1_000_000, 1_000_000),
+            _ if self.end != 0 => self.end,
             2 => rng.between(-9, 9),
             _ => rng.between(-3_000, 0),
         }
@@ -137,6 +142,7 @@ impl Shape {
         match rng.below(8) {
             0 => rng.pick(&[-1_000_000, 1_000_000, 0, -999_999, 999_999]),
             1 => rng.between(-1_000_000, 1_000_000),
+            _ if self.end != 0 => self.end,
             _ => rng.between(-1_500, 1_500),
         }
     }

@@ -100,6 +100,34 @@ pub fn score_of(book: &Book, steps: &[Step]) -> i64 {
     total
 }
 
+/// Ticket 4 of 02: of each step "the sum of triple scores inside one phrase", kept in 32 bits; "at
+/// most 24,000,000 in size, it fits".
+pub fn phrase_sums(book: &Book, steps: &[Step]) -> Vec<i32> {
+    let (mut v, mut w) = (0, 0);
+    let mut sums = Vec::new();
+    for step in steps {
+        let mut sum = 0i32;
+        for &y in book.phrases[step.2 as usize - 1].target() {
+            let score = i32::try_from(triple(book, v, w, y)).expect("32 bits");
+            sum = sum.checked_add(score).expect("32 bits");
+            (v, w) = (w, y);
+        }
+        assert!(sum.abs() <= 24_000_000);
+        sums.push(sum);
+    }
+    sums
+}
+
+/// The score of a derivation, with the triple scores summed up phrase by phrase.
+pub fn score_by_phrases(book: &Book, steps: &[Step]) -> i64 {
+    let mut total = 0;
+    for (k, sum) in phrase_sums(book, steps).into_iter().enumerate() {
+        let g = book.phrases[steps[k].2 as usize - 1].g as i64;
+        total += g + book.eta as i64 * jump(steps, k) + sum as i64;
+    }
+    total
+}
+
 /// Of the target words of a derivation, how many a T line, a D line, a U line and u supplied with
 /// their final score: each kind of line in turn takes the words that it lists from those left.
 pub fn supplied_of(book: &Book, steps: &[Step]) -> Supplied {

@@ -1,6 +1,6 @@
 //! The ways in which a triple comes by its score (ticket 2 of 02), and how often each was met: of the target words of every successful
-//! scoring and decode. A weight counts where it is not 0: one that is 0 shows nothing. And how often an answer had one supplier alone, or
-//! all four (ticket 3).
+//! scoring and decode. A weight counts where it is not 0: one that is 0 shows nothing. How often an answer had one supplier alone, or all
+//! four (ticket 3). And how often the words of a phrase summed up to millions (ticket 4).
 
 use crate::{check_book, plain, Book, Step, Supplied};
 
@@ -23,16 +23,22 @@ pub const MIXTURES: [&str; 5] = [
     "all four",
 ];
 
+/// What the triple scores inside a phrase sum up to: on either side of 0, a third of what 32 bits have to hold.
+pub const SUMS: [&str; 2] = ["-8,000,000 or less", "8,000,000 or more"];
+
 /// Each way has to be met so often, where a run asks for its refusals too.
 pub const LEAST: u64 = 100;
 /// And so often each mixture.
 pub const LEAST_ANSWERS: u64 = 20;
+/// And so often a large sum on each side.
+pub const LEAST_PHRASES: u64 = 20;
 
-/// How often each way was met, in target words, and each mixture, in answers.
+/// How often each way was met, in target words, each mixture, in answers, and a large sum, in steps.
 #[derive(Clone, Copy, Debug, Default, PartialEq, Eq)]
 pub struct Ways {
     pub words: [u64; 7],
     pub answers: [u64; 5],
+    pub phrases: [u64; 2],
 }
 
 /// The way of a triple, as a place in WAYS.
@@ -60,6 +66,11 @@ pub fn mixture(supplied: Supplied) -> Option<usize> {
         [_, _, _, _] => Some(4),
         _ => None,
     }
+}
+
+/// The side of a sum, as a place in SUMS, where it is large.
+pub fn side(sum: i32) -> Option<usize> {
+    (sum.abs() >= 8_000_000).then_some((sum > 0) as usize)
 }
 
 /// Names with their counts, as a row.
@@ -91,6 +102,12 @@ impl Ways {
         if let Some(k) = mixture(supplied) {
             ways.answers[k] += 1;
         }
+        for k in plain::phrase_sums(&book, steps)
+            .into_iter()
+            .filter_map(side)
+        {
+            ways.phrases[k] += 1;
+        }
         ways
     }
 
@@ -102,8 +119,9 @@ impl Ways {
     }
 
     pub fn add(&mut self, more: Ways) {
-        let sums = self.words.iter_mut().chain(&mut self.answers);
-        for (sum, times) in sums.zip(more.words.iter().chain(&more.answers)) {
+        let more = more.words.iter().chain(&more.answers).chain(&more.phrases);
+        let all = self.words.iter_mut().chain(&mut self.answers);
+        for (sum, times) in all.chain(&mut self.phrases).zip(more) {
             *sum += times;
         }
     }
@@ -112,11 +130,15 @@ impl Ways {
         println!("target words scored by: {}", row(&WAYS, &self.words));
         let answers = row(&MIXTURES, &self.answers);
         println!("answers of several words supplied by: {answers}");
+        let phrases = row(&SUMS, &self.phrases);
+        println!("steps whose words score: {phrases}");
     }
 
-    /// A way or a mixture that was met too seldom, in a sentence.
+    /// A way, a mixture or a side that was met too seldom, in a sentence.
     pub fn seldom(&self) -> Option<String> {
         let words = below(&WAYS, &self.words, LEAST);
-        words.or_else(|| below(&MIXTURES, &self.answers, LEAST_ANSWERS))
+        let answers = || below(&MIXTURES, &self.answers, LEAST_ANSWERS);
+        let phrases = || below(&SUMS, &self.phrases, LEAST_PHRASES);
+        words.or_else(answers).or_else(phrases)
     }
 }
