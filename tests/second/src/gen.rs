@@ -58,7 +58,7 @@ pub struct Shape {
     /// frequent. None: any scores.
     pub ties: &'static [i64],
     /// Where it is not 0, and there are no ties: the end of the range at which most scores and
-    /// weights are, so that what a phrase's words score sums up to millions.
+    /// weights are. Most entries have many target words then, whose scores sum up to millions.
     pub end: i64,
 }
 
@@ -122,6 +122,16 @@ impl Shape {
     fn target(&self, rng: &mut Rng) -> i64 {
         self.target_base + rng.below(self.target_words as usize) as i64
     }
+    fn at_end(&self) -> bool {
+        self.ties.is_empty() && self.end != 0
+    }
+    /// How many target words an entry has.
+    fn target_long(&self, rng: &mut Rng, most: i64) -> i64 {
+        if self.at_end() && rng.chance(3, 4) {
+            return rng.between(5, 8);
+        }
+        rng.between(1, most)
+    }
     fn score(&self, rng: &mut Rng) -> i64 {
         if !self.ties.is_empty() {
             return rng.pick(self.ties);
@@ -129,7 +139,7 @@ impl Shape {
         match rng.below(8) {
             0 => rng.pick(&[-1_000_000, 1_000_000, 0, -999_999, 999_999]),
             1 => rng.between(-1_000_000, 1_000_000),
-            _ if self.end != 0 => self.end,
+            _ if self.at_end() => self.end,
             2 => rng.between(-9, 9),
             _ => rng.between(-3_000, 0),
         }
@@ -142,7 +152,7 @@ impl Shape {
         match rng.below(8) {
             0 => rng.pick(&[-1_000_000, 1_000_000, 0, -999_999, 999_999]),
             1 => rng.between(-1_000_000, 1_000_000),
-            _ if self.end != 0 => self.end,
+            _ if self.at_end() => self.end,
             _ => rng.between(-1_500, 1_500),
         }
     }
@@ -198,7 +208,7 @@ fn word_for_word(rng: &mut Rng, shape: &Shape) -> Lines {
     if rng.chance(3, 4) {
         for k in 0..shape.source_words {
             if body.len() < shape.max_phrases && rng.chance(7, 8) {
-                let b = rng.between(1, shape.max_target.min(2));
+                let b = shape.target_long(rng, shape.max_target.min(2));
                 let mut line = vec![2, 1, b, shape.source_base + k];
                 for _ in 0..b {
                     line.push(shape.target(rng));
@@ -226,7 +236,7 @@ fn more_phrases(rng: &mut Rng, shape: &Shape, body: &mut Lines) {
             body.push(put_together(&body[one], &body[other]));
         } else {
             let a = rng.between(1, shape.max_source);
-            let b = rng.between(1, shape.max_target);
+            let b = shape.target_long(rng, shape.max_target);
             let mut line = vec![2, a, b];
             for _ in 0..a {
                 line.push(shape.source(rng));

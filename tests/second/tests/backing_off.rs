@@ -1,6 +1,6 @@
 //! Ticket 2 of 02: the score of a triple without a T line, by hand.
 
-use second::ways::{way, Ways, LEAST, LEAST_ANSWERS, MIXTURES, WAYS};
+use second::ways::{way, Ways, LEAST, LEAST_ANSWERS, LEAST_PHRASES, MIXTURES, SUMS, WAYS};
 use second::*;
 
 /// Every score and weight a different power of two.
@@ -111,10 +111,11 @@ fn scores_at_the_ends() {
 }
 
 #[test]
-fn a_way_or_mixture_met_too_seldom() {
+fn a_way_mixture_or_sum_met_too_seldom() {
     let enough = Ways {
         words: [LEAST; 7],
         answers: [LEAST_ANSWERS; 5],
+        phrases: [LEAST_PHRASES; 2],
     };
     let said = |least: u64, name: &str| Some(format!("met fewer than {least} times: {name}"));
     assert_eq!(enough.seldom(), None);
@@ -127,5 +128,10 @@ fn a_way_or_mixture_met_too_seldom() {
         let mut ways = enough;
         ways.answers[k] -= 1;
         assert_eq!(ways.seldom(), said(LEAST_ANSWERS, name));
+    }
+    for (k, name) in SUMS.iter().enumerate() {
+        let mut ways = enough;
+        ways.phrases[k] -= 1;
+        assert_eq!(ways.seldom(), said(LEAST_PHRASES, name));
     }
 }
