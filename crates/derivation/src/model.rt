@@ -10,8 +10,8 @@ ghost use Rattle.meaning.specs.Bounds.{tripleBound, wordsBound};
 ghost use Rattle.meaning.specs.Book.{Entry};
 ghost use Rattle.derivation.specs.Model.{Model, wordIn, emptyRow, withWord, withWords, PhraseOf, Phrased};
 
-// One target word more: the score of the triple that it ends comes to the sum. 32 bits hold it: it stays within wordsBound, 24,000,000, since there was
-// room for one triple's score. (Ticket 4; g and eta × jump are no part of the sum, they come to it in `step::gain`, in 64 bits.)
+// One target word more: the score of the triple that it ends comes to the sum. A phrase has up to eight target words, so there is room for one triple's
+// score below wordsBound, 24,000,000, and 32 bits hold the sum. (g and eta × jump are no part of it; `step::gain` adds them, in 64 bits.)
 fn add_word(index: &[u16], t: Setup, s: Row, y: u16) -> Row
     requires { ⌜ Model (now index) t ⌝ }
     requires { ⌜ Within (wordsBound - tripleBound) (s .score) ⌝ }
@@ -26,6 +26,7 @@ fn add_word(index: &[u16], t: Setup, s: Row, y: u16) -> Row
         y as usize,
     );
     Row {
+        // within wordsBound
         score: sum + triple as i32,
         word1: s.word2,
         word2: y,

@@ -12,7 +12,7 @@ use Rattle.derivation.specs.declared.Row.{Row}
 use Rattle.derivation.proofs.model.add_word.Statement.{statement}
 use Rattle.derivation.proofs.model.add_word.Tie as tie
 
--- src/model.rt:20:9
+-- src/model.rt:21:9
 triple-score-requires : tie.Need-triple-score-requires
 triple-score-requires c κs = c .before .before .before .before .pre .0 .is-model
 
@@ -29,15 +29,15 @@ module _ (c : tie.After-triple-score) where
   sum : Got (wordsBound - tripleBound + tripleBound) (i32 (b .args .s .score) +ℤ i32 (i64 (c .triple-score .result))) (b .args .s .score +ℤ modelScore (b .args .index .now) (b .args .t) (b .args .s .word1) (b .args .s .word2) (b .args .y))
   sum = let e : i32 (b .args .s .score) ≡ b .args .s .score = search needs in add (held e (b .pre .1)) (kept w32 triple (omega arith))
 
--- src/model.rt:28:22
+-- src/model.rt:30:22
 cast-t10 : tie.Need-cast-t10
 cast-t10 c = fits (triple c) (omega arith)
 
--- src/model.rt:28:16
+-- src/model.rt:30:16
 add-t11 : tie.Need-add-t11
 add-t11 c = fits (sum c) (omega arith)
 
--- src/model.rt:14:1
+-- src/model.rt:15:1
 returns : tie.Need-returns
 unfolding withWord
 returns c = ap {B = Row} (λ (z : ℤ). record { score = z; word1 = b c .args .s .word2; word2 = b c .args .y }) (kept w32 (sum c) (omega arith) .is)

@@ -21,20 +21,20 @@ Inv-loop book index t p word1 word2 s₀ k₀ s k =
 abbrev μ-loop : tie.MeasureT-loop
 μ-loop book index t p word1 word2 s₀ k₀ s k = p .target + p .count - k
 
--- src/model.rt:59:5
+-- src/model.rt:61:5
 loop-holds : tie.Need-loop-holds Inv-loop μ-loop
 loop-holds c =
     let none : c .before .args .p .target - c .before .args .p .target ≡ 0 = omega arith in
     ((omega arith, omega arith), (omega arith, λ e h. rw none refl))
 
--- src/model.rt:59:15
+-- src/model.rt:61:15
 add-if1 : tie.Need-add-if1 Inv-loop μ-loop
 add-if1 c =
     let w = c .before .before .before .pre .1 .is .target-at in
     let i = w .inside in
     search needs
 
--- src/model.rt:60:13
+-- src/model.rt:62:13
 word-at-requires : tie.Need-word-at-requires Inv-loop μ-loop
 word-at-requires c κs =
     let b = c .before .before .before .before in
@@ -43,7 +43,7 @@ word-at-requires c κs =
     let h = c .if1 .taken in
     omega arith
 
--- src/model.rt:61:9
+-- src/model.rt:63:9
 add-word-requires : tie.Need-add-word-requires Inv-loop μ-loop
 add-word-requires c κs =
     let b = c .before .before .before .before .before in
@@ -52,15 +52,15 @@ add-word-requires c κs =
     let h = c .before .if1 .taken in
     (b .pre .0, within-mono (omega arith) (l .inv .1 .0))
 
--- src/model.rt:62:9
+-- src/model.rt:64:9
 add-k : tie.Need-add-k Inv-loop μ-loop
 add-k c = omega arith
 
--- src/model.rt:59:5
+-- src/model.rt:61:5
 loop-less : tie.Need-loop-less Inv-loop μ-loop
 loop-less c = omega arith
 
--- src/model.rt:59:5
+-- src/model.rt:61:5
 loop-again : tie.Need-loop-again Inv-loop μ-loop
 loop-again c =
     let b = c .before .before .before .before .before .before in
@@ -81,7 +81,7 @@ loop-again c =
       ),
     )
 
--- src/model.rt:47:1
+-- src/model.rt:49:1
 returns : tie.Need-returns Inv-loop μ-loop
 returns c =
     let b = c .before .before .before .before in
