@@ -1,11 +1,12 @@
 -- Ticket 4, "the sum of triple scores inside one phrase is kept in 32 bits; at most 24,000,000 in size, it fits": of any phrase of any book that the checks
 -- pass, after any two words (`phrase-sum`, `phrase-fits`), and so of its first words alone, which the code's sum comes to on its way. The bound is not
--- reached: a pair whose weight is added is listed, and the word that it ends has that much less. 17,000,000 is the most (`phrase-most`).
+-- reached: a pair whose weight is added is listed, and the word that it ends has that much less. The sum is never more than 17,000,000 (`phrase-most`),
+-- which the cases of `try_cases` reach.
 use Prim.Native.Nat.{ℕ, _+_, _*_, _-_, _≤_}
 use native.Mathlib.Omega.{arith}
 use mathlib.Core.Path.{_≡_, refl}
 use mathlib.Core.Bool.{Bool, true, false}
-use mathlib.Core.List.{List, [], _∷_, List·Memᴰ}
+use mathlib.Core.List.{List, [], _∷_}
 use lib.IntN.{ℤ, pos, _+ℤ_}
 use lib.ListN.{length, take, length-take}
 use mir.Syntax.{w32}
@@ -14,7 +15,7 @@ use Rattle.laws.specs.Integers.{Within}
 use Rattle.laws.proofs.Tests.{by-test}
 use Rattle.laws.proofs.Bounds.{within-+, within-mono, within-fits}
 use Rattle.meaning.specs.Bounds.{scoreMost, wordsBound}
-use Rattle.meaning.specs.Book.{Book, Gram, bookRefusal, bookOf}
+use Rattle.meaning.specs.Book.{Book, bookRefusal, bookOf}
 use Rattle.meaning.specs.Derivation.{isListed, weight, wordScore, pairScore, backedOff, tripleScore, wordsScore, entryAt}
 use Rattle.meaning.proofs.Judging.{listed-else, listed-same}
 use Rattle.meaning.proofs.Ranges.{Ranged, loaded-ranged}
