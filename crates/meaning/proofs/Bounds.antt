@@ -57,9 +57,9 @@ module _ (book : Book) (R : Ranged book) where
   words-within v w [] = omega arith
   words-within v w (y ∷ ys) = within-mono (omega arith) (within-+ (triple-within v w y) (words-within w y ys))
 
-  -- what the triples that a phrase's target words end can add, after any two words: it has at most 8
-  pub phrase-within : (k v w : ℕ) → Within wordsBound (wordsScore book v w (entryAt book k .target))
-  phrase-within k v w = within-mono (let few : length (entryAt book k .target) ≤ 8 = R .target-to k in omega arith) (words-within v w (entryAt book k .target))
+  -- what the triples that a phrase's target words end, or the first of them, can add after any two words: they are at most 8
+  pub phrase-within : (v w : ℕ) (ys : List ℕ) → length ys ≤ 8 → Within wordsBound (wordsScore book v w ys)
+  phrase-within v w ys few = within-mono (omega arith) (words-within v w ys)
 
   -- a step that may extend a state jumps at most d, which is at most 32
   pub gain-within : (direction : List ℕ) (k : Key) (step : Step) → mayExtend book direction k step ≡ true → Within gainBound (gain book k step)
@@ -69,4 +69,4 @@ module _ (book : Book) (R : Ranged book) where
       let few : jump (k .r) step ≤ 32 = (let d = R .limit-to in omega arith) in
       within-+ {A = scoreMost + penaltyMost * 32} {B = wordsBound}
       (within-+ (R .g-within (step .entry)) (within-* (R .eta-within) (within-mono few (within-pos (jump (k .r) step)))))
-      (phrase-within (step .entry) (k .word1) (k .word2))
+      (phrase-within (k .word1) (k .word2) (entryAt book (step .entry) .target) (R .target-to (step .entry)))

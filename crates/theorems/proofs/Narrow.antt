@@ -19,7 +19,7 @@ use Rattle.meaning.specs.Book.{Book, bookRefusal, bookOf}
 use Rattle.meaning.specs.Derivation.{isListed, weight, wordScore, pairScore, backedOff, tripleScore, wordsScore, entryAt}
 use Rattle.meaning.proofs.Judging.{listed-else, listed-same}
 use Rattle.meaning.proofs.Ranges.{Ranged, loaded-ranged}
-use Rattle.meaning.proofs.Bounds.{score-or, weight-within, pair-within, words-within}
+use Rattle.meaning.proofs.Bounds.{score-or, weight-within, pair-within, phrase-within}
 
 pub bound-is : wordsBound ≡ 24_000_000
 bound-is = refl
@@ -36,7 +36,7 @@ module _ (loaded : List ℤ) (passed : bookRefusal loaded ≡ 0) (k v w j : ℕ)
       let R = loaded-ranged loaded passed in
       let few : length (entryAt (bookOf loaded) k .target) ≤ 8 = R .target-to k in
       let part = length-take j (entryAt (bookOf loaded) k .target) in
-      within-mono (omega arith) (words-within (bookOf loaded) R v w firstWords)
+      phrase-within (bookOf loaded) R v w firstWords (omega arith)
 
   pub phrase-fits : SFits w32 (wordsScore (bookOf loaded) v w firstWords)
   phrase-fits = within-fits w32 phrase-sum (omega arith)
