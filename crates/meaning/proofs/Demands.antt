@@ -16,7 +16,7 @@ use Rattle.laws.specs.Lists.{all, isEmpty}
 use Rattle.laws.proofs.Tests.{by-test, both, is-false, clash}
 use Rattle.laws.proofs.Bounds.{within-mono}
 use Rattle.meaning.specs.Questions.{_unless_, _orelse_, within, isOfSearch, isOfSteps}
-use Rattle.meaning.specs.Book.{Form, InList, Book, bookOf, bookRefusal, linesRefusal, loadedLines, isWhole, isOneBFirst, isInRange, isNotTooLong, isNoTripleTwice, isNoShorterTwice}
+use Rattle.meaning.specs.Book.{Form, InList, Book, bookOf, bookRefusal, linesRefusal, loadedLines, isWhole, isOneBFirst, isInRange, isNotTooLong, isCounted, isNoTripleTwice, isNoShorterTwice}
 use Rattle.meaning.specs.Direction.{wordCount, isDirectionWord, directionRefusal, numbersRefusal}
 use Rattle.meaning.specs.Derivation.{IsDerivation, fits, jump, isValid, targetWords, scoreOf, suppliedOf, inAll, comesBefore}
 use Rattle.meaning.specs.State.{Key, Hyp, start, isFree, nextKey, scoreBound, spreadBound}
@@ -49,7 +49,8 @@ lines-early form lines =
     (chain-ind IsEarly _ _ (early 3 (isOneBFirst lines) refl refl)
     (chain-ind IsEarly _ _ (early 4 (all isInRange lines) refl refl)
     (chain-ind IsEarly _ _ (early 5 (isNotTooLong lines) refl refl)
-    (chain-ind IsEarly _ _ (early 6 (isNoTripleTwice lines) refl refl) (early 20 (isNoShorterTwice lines) refl refl)))))
+    (chain-ind IsEarly _ _ (early 21 (isCounted form lines) refl refl)
+    (chain-ind IsEarly _ _ (early 6 (isNoTripleTwice lines) refl refl) (early 20 (isNoShorterTwice lines) refl refl))))))
 
 numbers-early : (numbers : List ℤ) → IsEarly (numbersRefusal numbers)
 unfolding numbersRefusal

@@ -2,20 +2,21 @@
 use Prim.Native.Nat.{ℕ, zero, suc, _≤_}
 use native.Mathlib.Nat.{not-suc-le-zero, le-of-suc-le-suc}
 use native.Mathlib.Omega.{arith}
-use mathlib.Core.Path.{_≡_, refl, sym, _∙_, ap}
-use mathlib.Core.Bool.{true, false≢true}
+use mathlib.Core.Path.{_≡_, refl, sym, _∙_, ap, subst}
+use mathlib.Core.Bool.{true, false, false≢true}
 use mathlib.Core.List.{List, [], _∷_, _++_}
-use borrow.Author.Tests.{eqb-true}
-use lib.IntN.{ℤ}
+use borrow.Author.Tests.{eqb-true, not-true}
+use lib.IntN.{ℤ, pos}
 use lib.ListN.{length, length-append}
 use lib.Seq.{take-append-seam, drop-append-seam}
-use Rattle.laws.specs.Lists.{all, concat}
-use Rattle.laws.proofs.Tests.{both}
+use Rattle.laws.specs.Lists.{all, any, count, concat}
+use Rattle.laws.proofs.Integers.{eqℤ-refl}
+use Rattle.laws.proofs.Tests.{both, neither}
 use Rattle.meaning.specs.Questions.{_unless_}
-use Rattle.meaning.specs.Book.{InText, InList, sizeOf, isWhole, cutLines, loadedLines, linesRefusal, bookRefusal, isBookText, textLines, loadedOf, readRefusal}
+use Rattle.meaning.specs.Book.{InText, InList, numberAt, isB, isP, isT, orderOf, isGram, sizeOf, isWhole, isOneBFirst, isInRange, isNotTooLong, isCounted, isNoTripleTwice, isNoShorterTwice, cutLines, loadedLines, linesRefusal, bookRefusal, isBookText, textLines, withCounts, loadedBook, loadedOf, readRefusal, bookOfLines}
 use Rattle.meaning.proofs.Chains.{first-passes, rest-passes}
-use Rattle.meaning.proofs.Ranges.{lines-passed}
-use Rattle.meaning.proofs.Sizes.{four-numbers}
+use Rattle.meaning.proofs.Ranges.{Passed, lines-passed, passed-lines, kind-is}
+use Rattle.meaning.proofs.Sizes.{four-numbers, whole-size as size}
 
 -- a whole line's size is seen from its own numbers, of which it has four at least
 pub size-append : (line rest : List ℤ) → isWhole InList line ≡ true → sizeOf InList (line ++ rest) ≡ sizeOf InList line
@@ -55,14 +56,79 @@ pub loaded-lines : (lines : List (List ℤ)) → all (isWhole InList) lines ≡ 
 unfolding loadedLines
 loaded-lines lines t = cut-concat (length (concat lines)) lines (omega arith) t
 
--- the lines of a text and of a loaded list take the same numbers
-same-size : (lines : List (List ℤ)) → linesRefusal InText lines ≡ linesRefusal InList lines
-unfolding linesRefusal isWhole sizeOf
-same-size lines = refl
+-- ════ a book that was read
 
--- reading and the later calls ask 2 to 6 of the same lines: a book that was read passes
+-- a whole B line of a text is its kind, d, eta and u
+record TextB (line : List ℤ) : Type 0 where
+  pub d : ℤ
+  pub eta : ℤ
+  pub u : ℤ
+  pub is : line ≡ pos 1 ∷ d ∷ eta ∷ u ∷ []
+
+text-b : (line : List ℤ) → isB line ≡ true → isWhole InText line ≡ true → TextB line
+unfolding sizeOf
+text-b line b w = let k : numberAt line 0 ≡ pos 1 = kind-is line 1 b in of line k (rw k at (size InText line w))
+  where
+    of : (line : List ℤ) → numberAt line 0 ≡ pos 1 → length line ≡ 4 → TextB line
+    of [] k l = absurd (omega arith)
+    of (a ∷ []) k l = absurd (omega arith)
+    of (a ∷ b ∷ []) k l = absurd (omega arith)
+    of (a ∷ b ∷ c ∷ []) k l = absurd (omega arith)
+    of (a ∷ b ∷ c ∷ d ∷ []) k l = record { d = b; eta = c; u = d; is = ap (λ (z : ℤ). z ∷ b ∷ c ∷ d ∷ []) k }
+    of (a ∷ b ∷ c ∷ d ∷ e ∷ line) k l = absurd (omega arith)
+
+-- the lines of every kind but B take the same numbers in a text and in a loaded list
+pub same-whole : (line : List ℤ) → isB line ≡ false → isWhole InList line ≡ isWhole InText line
+unfolding isWhole sizeOf
+same-whole line f = rw f
+
+pub same-wholes : (lines : List (List ℤ)) → any isB lines ≡ false → all (isWhole InList) lines ≡ all (isWhole InText) lines
+same-wholes [] f = refl
+same-wholes (line ∷ lines) f = let h = neither (isB line) (any isB lines) f in rw (same-whole line (h .0), same-wholes lines (h .1))
+
+-- lines of a text that 2 to 6 and 20 pass: with the counts they are lines of a loaded list that 2 to 6, 21 and 20 pass
+read-lines : (d eta u : ℤ) (lines : List (List ℤ)) → Passed InText ((pos 1 ∷ d ∷ eta ∷ u ∷ []) ∷ lines) → Passed InList (withCounts ((pos 1 ∷ d ∷ eta ∷ u ∷ []) ∷ lines))
+unfolding isWhole sizeOf isOneBFirst isInRange isNotTooLong isCounted isNoTripleTwice isNoShorterTwice
+read-lines d eta u lines p = record {
+  whole = same-wholes lines (not-true (any isB lines) (p .one-b)) ∙ p .whole;
+  one-b = p .one-b;
+  ranged = p .ranged;
+  short = p .short;
+  counted = rw (eqℤ-refl (pos (count isP lines)), eqℤ-refl (pos (count isT lines)));
+  no-triple-twice = p .no-triple-twice;
+  no-shorter-twice = p .no-shorter-twice;
+}
+
+-- and state the same book
+read-book : (d eta u : ℤ) (lines : List (List ℤ)) → bookOfLines (withCounts ((pos 1 ∷ d ∷ eta ∷ u ∷ []) ∷ lines)) ≡ bookOfLines ((pos 1 ∷ d ∷ eta ∷ u ∷ []) ∷ lines)
+unfolding bookOfLines isGram orderOf
+read-book d eta u lines = refl
+
+-- both, of the lines of any text
+pub record ReadAs (lines : List (List ℤ)) : Type 0 where
+  pub passed : Passed InList (withCounts lines)
+  pub book-is : bookOfLines (withCounts lines) ≡ bookOfLines lines
+
+pub read-as : (lines : List (List ℤ)) → Passed InText lines → ReadAs lines
+unfolding isOneBFirst
+read-as [] p = absurd (false≢true (p .one-b))
+read-as (line ∷ lines) p =
+    let b = text-b line (both (isB line) _ (p .one-b) .0) (both (isWhole InText line) _ (p .whole) .0) in
+    subst (λ (l : List ℤ). Passed InText (l ∷ lines) → ReadAs (l ∷ lines)) (sym (b .is))
+    (λ q. record { passed = read-lines (b .d) (b .eta) (b .u) lines q; book-is = read-book (b .d) (b .eta) (b .u) lines }) p
+
+pub read-loaded : (lines : List (List ℤ)) → Passed InText lines → loadedLines (loadedBook lines) ≡ withCounts lines
+unfolding loadedBook
+read-loaded lines p = loaded-lines (withCounts lines) (read-as lines p .passed .whole)
+
+-- what reading asked of a text that it took
+pub read-passed : (text : List ℕ) (places : ℕ) → readRefusal text places ≡ 0 → Passed InText (textLines text)
+unfolding readRefusal
+read-passed text places e = lines-passed InText (textLines text) (first-passes (linesRefusal InText (textLines text)) _ (rest-passes (1 unless isBookText text) _ e))
+
+-- so a book that was read passes 2 to 6, 21 and 20 in every later call
 pub read-passes : (text : List ℕ) (places : ℕ) → readRefusal text places ≡ 0 → bookRefusal (loadedOf text) ≡ 0
-unfolding readRefusal bookRefusal loadedOf
+unfolding bookRefusal loadedOf
 read-passes text places e =
-    let p : linesRefusal InList (textLines text) ≡ 0 = sym (same-size (textLines text)) ∙ first-passes (linesRefusal InText (textLines text)) _ (rest-passes (1 unless isBookText text) _ e) in
-    ap (linesRefusal InList) (loaded-lines (textLines text) (lines-passed InList (textLines text) p .whole)) ∙ p
+    let p = read-passed text places e in
+    ap (linesRefusal InList) (read-loaded (textLines text) p) ∙ passed-lines InList (withCounts (textLines text)) (read-as (textLines text) p .passed)

@@ -18,7 +18,7 @@ use Rattle.laws.proofs.Order.{yes-≡}
 use Rattle.laws.proofs.Lists.{all-mem, keep-mem, getD-mem}
 use Rattle.meaning.specs.Questions.{_unless_, withinℤ}
 use Rattle.meaning.specs.Bounds.{wordMost, scoreMost, penaltyMost}
-use Rattle.meaning.specs.Book.{Form, InList, numberAt, naturalAt, isB, isP, isT, isU, isD, isPhraseLength, sizeOf, isWhole, isOneBFirst, isScore, isPhraseWord, isHistoryWord, isLastWord, isLoneWord, isWeight, rangesB, rangesP, rangesT, rangesU, rangesD, isInRange, isNotTooLong, isNoTripleTwice, isNoShorterTwice, linesRefusal, bookRefusal, loadedLines, wordsAt, Entry, Gram, Book, entryOf, orderOf, isGram, gramOf, bookOfLines, bookOf}
+use Rattle.meaning.specs.Book.{Form, InList, numberAt, naturalAt, isB, isP, isT, isU, isD, isPhraseLength, sizeOf, isWhole, isOneBFirst, isScore, isPhraseWord, isHistoryWord, isLastWord, isLoneWord, isWeight, rangesB, rangesP, rangesT, rangesU, rangesD, isInRange, isNotTooLong, isCounted, isNoTripleTwice, isNoShorterTwice, linesRefusal, bookRefusal, loadedLines, wordsAt, Entry, Gram, Book, entryOf, orderOf, isGram, gramOf, bookOfLines, bookOf}
 use Rattle.meaning.specs.Derivation.{noEntry, entryAt}
 use Rattle.meaning.proofs.Chains.{first-passes, rest-passes, test-passes}
 
@@ -29,6 +29,7 @@ pub record Passed (form : Form) (lines : List (List ℤ)) : Type 0 where
   pub one-b : isOneBFirst lines ≡ true
   pub ranged : all isInRange lines ≡ true
   pub short : isNotTooLong lines ≡ true
+  pub counted : isCounted form lines ≡ true
   pub no-triple-twice : isNoTripleTwice lines ≡ true
   pub no-shorter-twice : isNoShorterTwice lines ≡ true
 
@@ -39,15 +40,22 @@ lines-passed form lines e =
     let after3 = rest-passes (3 unless isOneBFirst lines) _ after2 in
     let after4 = rest-passes (4 unless all isInRange lines) _ after3 in
     let after5 = rest-passes (5 unless isNotTooLong lines) _ after4 in
-    let after6 = rest-passes (6 unless isNoTripleTwice lines) _ after5 in
+    let after21 = rest-passes (21 unless isCounted form lines) _ after5 in
+    let after6 = rest-passes (6 unless isNoTripleTwice lines) _ after21 in
     record {
       whole = test-passes 1 _ (first-passes (2 unless all (isWhole form) lines) _ e);
       one-b = test-passes 2 _ (first-passes (3 unless isOneBFirst lines) _ after2);
       ranged = test-passes 3 _ (first-passes (4 unless all isInRange lines) _ after3);
       short = test-passes 4 _ (first-passes (5 unless isNotTooLong lines) _ after4);
-      no-triple-twice = test-passes 5 _ (first-passes (6 unless isNoTripleTwice lines) _ after5);
+      counted = test-passes 20 _ (first-passes (21 unless isCounted form lines) _ after5);
+      no-triple-twice = test-passes 5 _ (first-passes (6 unless isNoTripleTwice lines) _ after21);
       no-shorter-twice = test-passes 19 _ after6;
     }
+
+-- and back
+pub passed-lines : (form : Form) (lines : List (List ℤ)) → Passed form lines → linesRefusal form lines ≡ 0
+unfolding linesRefusal
+passed-lines form lines p = rw (p .whole, p .one-b, p .ranged, p .short, p .counted, p .no-triple-twice, p .no-shorter-twice)
 
 -- ════ ranges of numbers
 
@@ -67,7 +75,7 @@ nat-low (negsuc m) n e = absurd (false≢true e)
 
 -- ════ a B line, a P line, a line of an n-gram
 
-kind-is : (line : List ℤ) (k : ℕ) → eqℤ (numberAt line 0) (pos k) ≡ true → numberAt line 0 ≡ pos k
+pub kind-is : (line : List ℤ) (k : ℕ) → eqℤ (numberAt line 0) (pos k) ≡ true → numberAt line 0 ≡ pos k
 kind-is line k e = yes-≡ (numberAt line 0) (pos k) e
 
 pub record BLine (line : List ℤ) : Type 0 where

@@ -31,8 +31,8 @@ B = bytes "B,2,-10,-500\n"
 unfoldable pub texts : List Row
 texts =
     (reads bookText, 0)
-    ∷ (readRefusal bookText 44, 0)
-    ∷ (readRefusal bookText 43, 7)
+    ∷ (readRefusal bookText 46, 0)
+    ∷ (readRefusal bookText 45, 7)
     ∷ (reads B, 0)
     -- 1: no line; no byte 10 at the end; an empty line; no number; an empty number; another letter; two letters
     ∷ (reads [], 1)
@@ -155,9 +155,9 @@ shorterTexts =
     ∷ (reads (B ++ bytes "U,0,1,2\n" ++ bytes "U,0,3,4\n"), 20)
     ∷ (reads (B ++ D ++ D ++ bytes "U,-1,-40,5\n"), 4)
     ∷ (reads (bookText ++ D ++ D ++ bytes "T,0,101,102,-61\n"), 6)
-    ∷ (readRefusal (bookText ++ D ++ D) 43, 20)
-    ∷ (readRefusal (bookText ++ D ++ U) 52, 7)
-    ∷ (readRefusal (bookText ++ D ++ U) 53, 0)
+    ∷ (readRefusal (bookText ++ D ++ D) 45, 20)
+    ∷ (readRefusal (bookText ++ D ++ U) 54, 7)
+    ∷ (readRefusal (bookText ++ D ++ U) 55, 0)
     ∷ []
 
 pub shorter-texts-agree : all agrees shorterTexts ≡ true
@@ -166,8 +166,9 @@ shorter-texts-agree = refl
 
 -- ════ loaded books
 
-abbrev pub bLine : List ℤ
-bLine = pos 1 ∷ pos 2 ∷ negsuc 9 ∷ negsuc 499 ∷ []
+-- the B record of a book of p P lines and t T lines
+abbrev pub bLine : ℕ → ℕ → List ℤ
+bLine p t = pos 1 ∷ pos 2 ∷ negsuc 9 ∷ negsuc 499 ∷ pos p ∷ pos t ∷ []
 
 abbrev pub pLine : List ℤ
 pLine = pos 2 ∷ pos 1 ∷ pos 1 ∷ pos 11 ∷ pos 101 ∷ negsuc 19 ∷ []
@@ -183,41 +184,55 @@ dLine = pos 5 ∷ pos 101 ∷ pos 102 ∷ negsuc 59 ∷ negsuc 6 ∷ []
 
 -- a list that 20 refuses
 abbrev pub twice : List ℤ
-twice = bLine ++ pLine ++ dLine ++ dLine
+twice = bLine 1 0 ++ pLine ++ dLine ++ dLine
 
 unfoldable pub loaded : List Row
 loaded =
     (bookRefusal (book 2), 0)
     ∷ (bookRefusal (book 33), 4)
-    ∷ (bookRefusal (bLine ++ pLine ++ tLine), 0)
+    ∷ (bookRefusal (bLine 1 1 ++ pLine ++ tLine), 0)
     -- an empty list has no line that is not whole, and no first line
     ∷ (bookRefusal [], 3)
     -- 2: cut off; an unknown kind; a number behind the last line; a out of range, also as a negative number
-    ∷ (bookRefusal (take 3 bLine), 2)
-    ∷ (bookRefusal (bLine ++ pLine ++ take 4 tLine), 2)
-    ∷ (bookRefusal (bLine ++ take 1 pLine), 2)
-    ∷ (bookRefusal (pos 6 ∷ bLine), 2)
+    ∷ (bookRefusal (take 3 (bLine 0 0)), 2)
+    ∷ (bookRefusal (take 4 (bLine 0 0)), 2)
+    ∷ (bookRefusal (take 5 (bLine 0 0)), 2)
+    ∷ (bookRefusal (bLine 1 0 ++ pLine ++ take 4 tLine), 2)
+    ∷ (bookRefusal (bLine 0 0 ++ take 1 pLine), 2)
+    ∷ (bookRefusal (pos 6 ∷ bLine 0 0), 2)
     ∷ (bookRefusal (negsuc 0 ∷ []), 2)
-    ∷ (bookRefusal (bLine ++ (pos 0 ∷ [])), 2)
-    ∷ (bookRefusal (bLine ++ (pos 2 ∷ pos 9 ∷ pLine ++ pLine)), 2)
-    ∷ (bookRefusal (bLine ++ (pos 2 ∷ negsuc 0 ∷ pos 1 ∷ pLine)), 2)
-    ∷ (bookRefusal (pLine ++ bLine), 3)
-    ∷ (bookRefusal (bLine ++ tLine ++ bLine), 3)
-    ∷ (bookRefusal (bLine ++ tLine ++ pLine ++ tLine), 6)
+    ∷ (bookRefusal (bLine 0 0 ++ (pos 0 ∷ [])), 2)
+    ∷ (bookRefusal (bLine 2 0 ++ (pos 2 ∷ pos 9 ∷ pLine ++ pLine)), 2)
+    ∷ (bookRefusal (bLine 1 0 ++ (pos 2 ∷ negsuc 0 ∷ pos 1 ∷ pLine)), 2)
+    ∷ (bookRefusal (pLine ++ bLine 1 0), 3)
+    ∷ (bookRefusal (bLine 0 1 ++ tLine ++ bLine 0 1), 3)
+    ∷ (bookRefusal (bLine 1 2 ++ tLine ++ pLine ++ tLine), 6)
     -- U and D lines: whole; cut off; one's numbers under the other's kind; a repeated word or pair, after 6
-    ∷ (bookRefusal (bLine ++ uLine ++ pLine ++ dLine ++ tLine), 0)
-    ∷ (bookRefusal (bLine ++ take 3 uLine), 2)
-    ∷ (bookRefusal (bLine ++ take 1 uLine), 2)
-    ∷ (bookRefusal (bLine ++ uLine ++ take 4 dLine), 2)
-    ∷ (bookRefusal (bLine ++ uLine ++ take 1 dLine), 2)
-    ∷ (bookRefusal (bLine ++ set dLine 0 (pos 4)), 2)
-    ∷ (bookRefusal (bLine ++ set uLine 0 (pos 5)), 2)
-    ∷ (bookRefusal (uLine ++ bLine), 3)
-    ∷ (bookRefusal (bLine ++ set dLine 2 (pos 0)), 4)
-    ∷ (bookRefusal (bLine ++ set dLine 1 (pos 0) ++ set uLine 1 (pos 0)), 0)
+    ∷ (bookRefusal (bLine 1 1 ++ uLine ++ pLine ++ dLine ++ tLine), 0)
+    ∷ (bookRefusal (bLine 0 0 ++ take 3 uLine), 2)
+    ∷ (bookRefusal (bLine 0 0 ++ take 1 uLine), 2)
+    ∷ (bookRefusal (bLine 0 0 ++ uLine ++ take 4 dLine), 2)
+    ∷ (bookRefusal (bLine 0 0 ++ uLine ++ take 1 dLine), 2)
+    ∷ (bookRefusal (bLine 0 0 ++ set dLine 0 (pos 4)), 2)
+    ∷ (bookRefusal (bLine 0 0 ++ set uLine 0 (pos 5)), 2)
+    ∷ (bookRefusal (uLine ++ bLine 0 0), 3)
+    ∷ (bookRefusal (bLine 0 0 ++ set dLine 2 (pos 0)), 4)
+    ∷ (bookRefusal (bLine 0 0 ++ set dLine 1 (pos 0) ++ set uLine 1 (pos 0)), 0)
     ∷ (bookRefusal twice, 20)
-    ∷ (bookRefusal (bLine ++ uLine ++ dLine ++ uLine), 20)
-    ∷ (bookRefusal (twice ++ tLine ++ tLine), 6)
+    ∷ (bookRefusal (bLine 0 0 ++ uLine ++ dLine ++ uLine), 20)
+    ∷ (bookRefusal (twice ++ tLine ++ tLine), 21)
+    ∷ (bookRefusal (bLine 1 2 ++ pLine ++ dLine ++ dLine ++ tLine ++ tLine), 6)
+    -- 21: a P line or a T line too many or too few, the two turned round, a negative count; after 4, before 6 and 20
+    ∷ (bookRefusal (bLine 0 1 ++ pLine ++ tLine), 21)
+    ∷ (bookRefusal (bLine 2 1 ++ pLine ++ tLine), 21)
+    ∷ (bookRefusal (bLine 1 0 ++ pLine ++ tLine), 21)
+    ∷ (bookRefusal (bLine 1 2 ++ pLine ++ tLine), 21)
+    ∷ (bookRefusal (bLine 1 2 ++ pLine ++ tLine ++ pLine), 21)
+    ∷ (bookRefusal (set (bLine 1 1) 4 (negsuc 0) ++ pLine ++ tLine), 21)
+    ∷ (bookRefusal (set (bLine 0 0) 5 (negsuc 0)), 21)
+    ∷ (bookRefusal (bLine 0 0 ++ pLine ++ set dLine 2 (pos 0)), 4)
+    ∷ (bookRefusal (bLine 0 2 ++ tLine ++ pLine ++ tLine), 21)
+    ∷ (bookRefusal (bLine 0 0 ++ pLine ++ dLine ++ dLine), 21)
     ∷ []
 
 pub loaded-agree : all agrees loaded ≡ true
@@ -293,18 +308,18 @@ proposals-agree = refl
 unfoldable pub parts : List Row
 parts =
     (length (partOf (targetPart (book 2) 3) (book 2)), 2)
-    ∷ (targetPart (book 2) 1 .start, 8)
-    ∷ (targetPart (book 2) 3 .start, 21)
-    ∷ (targetPart (book 2) 4 .start, 44)
+    ∷ (targetPart (book 2) 1 .start, 10)
+    ∷ (targetPart (book 2) 3 .start, 23)
+    ∷ (targetPart (book 2) 4 .start, 46)
     ∷ (targetPart (book 2) 4 .size, 0)
-    ∷ (targetPart (book 2) 0 .start, 44)
-    ∷ (targetPart (book 33) 1 .start, 44)
+    ∷ (targetPart (book 2) 0 .start, 46)
+    ∷ (targetPart (book 33) 1 .start, 46)
     ∷ (targetPart (book 33) 1 .size, 0)
-    ∷ (targetPart twice 1 .start, 20)
+    ∷ (targetPart twice 1 .start, 22)
     ∷ (targetPart twice 1 .size, 0)
     -- behind a U and a D line
-    ∷ (targetPart (bLine ++ uLine ++ dLine ++ pLine) 1 .start, 17)
-    ∷ (targetPart (bLine ++ uLine ++ dLine ++ pLine) 1 .size, 1)
+    ∷ (targetPart (bLine 1 0 ++ uLine ++ dLine ++ pLine) 1 .start, 19)
+    ∷ (targetPart (bLine 1 0 ++ uLine ++ dLine ++ pLine) 1 .size, 1)
     ∷ []
 
 pub parts-agree : all agrees parts ≡ true

@@ -15,7 +15,7 @@ use Rattle.laws.specs.Lists.{all, any, count, isEmpty}
 use Rattle.laws.proofs.Lists.{count-cons, count-none}
 use Rattle.laws.proofs.Tests.{if-ind, both, clash}
 use Rattle.laws.proofs.Linear.{signed}
-use Rattle.meaning.specs.Book.{Form, numberAt, isPhraseLength, phraseSize, kinds, isB, sizeOf, isWhole, isOneBFirst, isNotTooLong}
+use Rattle.meaning.specs.Book.{Form, InText, InList, sizeB, numberAt, isPhraseLength, phraseSize, kinds, isB, sizeOf, isWhole, isOneBFirst, isNotTooLong}
 use Rattle.meaning.proofs.Table.{by-kind-ind, counted, allowed, few-allowed, counted-next}
 use Rattle.meaning.proofs.Ranges.{Passed}
 
@@ -31,9 +31,13 @@ phrase-to line =
     (λ t. let h = both (isPhraseLength (numberAt line 1)) (isPhraseLength (numberAt line 2)) t in
     omega (arith, eight (numberAt line 1) (h .0), eight (numberAt line 2) (h .1))) (λ t. omega arith)
 
+b-size : (form : Form) → (4 ≤ sizeB form) × (sizeB form ≤ 20)
+b-size InText = (omega arith, omega arith)
+b-size InList = (omega arith, omega arith)
+
 pub size-to : (form : Form) (line : List ℤ) → sizeOf form line ≤ 20
 unfolding sizeOf
-size-to form line = by-kind-ind (λ row. row .size form line) line (λ (n : ℕ). n ≤ 20) 1 kinds (omega arith) (omega arith, (phrase-to line, (omega arith, (omega arith, (omega arith, tt)))))
+size-to form line = by-kind-ind (λ row. row .size form line) line (λ (n : ℕ). n ≤ 20) 1 kinds (omega arith) (b-size form .1, (phrase-to line, (omega arith, (omega arith, (omega arith, tt)))))
 
 -- a size is 0, or four at least
 abbrev From : ℕ → Type 0
@@ -44,7 +48,7 @@ phrase-from line = if-ind (isPhraseLength (numberAt line 1) && isPhraseLength (n
 
 pub size-from : (form : Form) (line : List ℤ) → (sizeOf form line ≡ 0 → ⊥) → 4 ≤ sizeOf form line
 unfolding sizeOf
-size-from form line = by-kind-ind (λ row. row .size form line) line From 1 kinds (λ h. absurd (h refl)) ((λ h. omega arith), (phrase-from line, ((λ h. omega arith), ((λ h. omega arith), ((λ h. omega arith), tt)))))
+size-from form line = by-kind-ind (λ row. row .size form line) line From 1 kinds (λ h. absurd (h refl)) ((λ h. b-size form .0), (phrase-from line, ((λ h. omega arith), ((λ h. omega arith), ((λ h. omega arith), tt)))))
 
 -- a whole line has as many numbers as its kind takes, and so four at least
 pub whole-size : (form : Form) (line : List ℤ) → isWhole form line ≡ true → length line ≡ sizeOf form line

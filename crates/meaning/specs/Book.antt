@@ -1,8 +1,8 @@
--- The book: its text, its lines as numbers, questions 1 to 7 and 20, and the model that it states.
+-- The book: its text, its lines as numbers, questions 1 to 7, 20 and 21, and the model that it states.
 -- A line is the list of its numbers, its kind first: "the letters B, P, T as 1, 2, 3"; "U's kind is 4 and D's 5".
 use Prim.Native.Nat.{ℕ, zero, suc, _+_, _-_}
 use mathlib.Core.Bool.{Bool, true, false, not, _&&_, cond}
-use mathlib.Core.List.{List, [], _∷_, map, dropLast}
+use mathlib.Core.List.{List, [], _∷_, _++_, map, dropLast}
 use lib.Dec.{eqb, leb}
 use lib.IntN.{ℤ, pos, negℤ}
 use lib.ListN.{length, getD, take, drop}
@@ -59,7 +59,7 @@ isLoneWord z = withinℤ (pos 0) (pos wordMost) z
 abbrev pub isWeight : ℤ → Bool
 isWeight z = isScore z
 
--- "reordering limit d, 0 to 32; penalty eta, −10,000 to 10,000; score u for an unseen triple"
+-- "reordering limit d, 0 to 32; penalty eta, −10,000 to 10,000; score u for an unseen triple"; "a stored count, which 4 passes over"
 abbrev pub rangesB : List ℤ → Bool
 rangesB line =
     withinℤ (pos 0) (pos 32) (numberAt line 1)
@@ -108,7 +108,7 @@ pub record Kind : Type 0 where
   -- the byte of its letter
   pub letter : ℕ
   -- how many numbers its line takes in a text, and in a loaded list, its kind the first; 0 where the numbers that tell it are out
-  -- of range or missing. Both are the same: "A loaded book is the same numbers in the same order"
+  -- of range or missing. Of every kind but B both are the same: "A loaded book is the same numbers in the same order"
   pub size : Form → List ℤ → ℕ
   -- whether the numbers of a line that has that size are in their ranges
   pub ranges : List ℤ → Bool
@@ -117,9 +117,14 @@ pub record Kind : Type 0 where
   -- how many words the n-gram has that such a line lists, right behind its kind; 0 where it lists none
   pub order : ℕ
 
--- B,d,eta,u; "Is the first line a B line, and the only one?"
+-- B,d,eta,u in a text; "The B record of a loaded book gains two numbers at its end", "The text does not change."
+abbrev pub sizeB : Form → ℕ
+sizeB InText = 4
+sizeB InList = 6
+
+-- a B line; "Is the first line a B line, and the only one?"
 abbrev pub kindB : Kind
-kindB = record { letter = 66; size = λ form line. 4; ranges = rangesB; most = 1; order = 0 }
+kindB = record { letter = 66; size = λ form line. sizeB form; ranges = rangesB; most = 1; order = 0 }
 
 -- P,a,b,x1..xa,y1..yb,g
 abbrev pub kindP : Kind
@@ -214,7 +219,7 @@ lineNumbers (letter ∷ fields) = pos (kindOfLetter letter) ∷ map valueOf fiel
 unfoldable pub textLines : List ℕ → List (List ℤ)
 textLines text = map lineNumbers (linesOf text)
 
--- ════ lines as numbers: questions 2 to 6 and 20
+-- ════ lines as numbers: questions 2 to 6, 21 and 20
 
 -- how many numbers the line takes that stands at the front; 0 for an unknown kind
 unfoldable pub sizeOf : Form → List ℤ → ℕ
@@ -251,6 +256,15 @@ isInRange line = byKind false (λ row. row .ranges line) line
 unfoldable pub isNotTooLong : List (List ℤ) → Bool
 isNotTooLong lines = areFew lines 2 (drop 1 kinds)
 
+-- the two numbers at the end of a loaded book's B record: "the P and then the T lines it holds"
+abbrev pub storedCounts : List (List ℤ) → List ℤ
+storedCounts lines = pos (count isP lines) ∷ pos (count isT lines) ∷ []
+
+-- question 21: "when a stored count .. differs from the lines". A text stores none
+unfoldable pub isCounted : Form → List (List ℤ) → Bool
+isCounted InText lines = true
+isCounted InList lines = eqList eqℤ (drop (sizeB InText) (getD lines 0 [])) (storedCounts lines)
+
 -- how many words the n-gram has that the line lists: 3 of a T, 2 of a D, 1 of a U line
 unfoldable pub orderOf : List ℤ → ℕ
 orderOf line = byKind 0 (λ row. row .order) line
@@ -271,13 +285,14 @@ isNoTripleTwice lines = isNoneTwice isT lines
 unfoldable pub isNoShorterTwice : List (List ℤ) → Bool
 isNoShorterTwice lines = isNoneTwice isD lines && isNoneTwice isU lines
 
--- questions 2 to 6 and "20, asked after 6", of the lines of a text or of a loaded list
+-- questions 2 to 6, "21, after 5", and "20, asked after 6", of the lines of a text or of a loaded list
 unfoldable pub linesRefusal : Form → List (List ℤ) → ℕ
 linesRefusal form lines =
     2 unless all (isWhole form) lines
     orelse 3 unless isOneBFirst lines
     orelse 4 unless all isInRange lines
     orelse 5 unless isNotTooLong lines
+    orelse 21 unless isCounted form lines
     orelse 6 unless isNoTripleTwice lines
     orelse 20 unless isNoShorterTwice lines
 
@@ -287,9 +302,18 @@ bookRefusal loaded = linesRefusal InList (loadedLines loaded)
 
 -- ════ reading a book: questions 1 to 7
 
--- "A loaded book is the same numbers in the same order"
+-- the two counts "kept right by reading, adding and removing, and by any later call that puts lines after a book's last": whatever stood behind
+-- the B line's d, eta and u, the counts of these lines stand there
+abbrev pub withCounts : List (List ℤ) → List (List ℤ)
+withCounts [] = []
+withCounts (line ∷ lines) = (take (sizeB InText) line ++ storedCounts (line ∷ lines)) ∷ lines
+
+-- the loaded book of lines: "A loaded book is the same numbers in the same order", but for the counts
+unfoldable pub loadedBook : List (List ℤ) → List ℤ
+loadedBook lines = concat (withCounts lines)
+
 unfoldable pub loadedOf : List ℕ → List ℤ
-loadedOf text = concat (textLines text)
+loadedOf text = loadedBook (textLines text)
 
 -- "Reading a book: 1 to 7." `places` is the length of the lent list
 unfoldable pub readRefusal : List ℕ → ℕ → ℕ

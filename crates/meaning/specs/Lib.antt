@@ -8,4 +8,5 @@ pub mod Derivation
 pub mod State
 pub mod Search
 pub mod Reply
+pub mod Revision
 pub mod Render

@@ -72,6 +72,8 @@ pub enum Refusal {
     JumpTooLong,
     Uncovered,
     RepeatedShorter,
+    StoredCounts,
+    AbsentEntry,
 }
 
 // The refusal's number in the papers.
@@ -99,6 +101,8 @@ pub fn number_of(refusal: Refusal) -> usize
         Refusal::JumpTooLong => 18,
         Refusal::Uncovered => 19,
         Refusal::RepeatedShorter => 20,
+        Refusal::StoredCounts => 21,
+        Refusal::AbsentEntry => 22,
     }
 }
 
