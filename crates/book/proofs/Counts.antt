@@ -16,7 +16,7 @@ use Rattle.laws.proofs.Lists.{count-cons, count-none, drop-next, numbers-first}
 use Rattle.laws.proofs.Order.{yes-≡}
 use Rattle.laws.proofs.Tests.{same-test, by-test}
 use Rattle.meaning.specs.Questions.{_unless_, _orelse_}
-use Rattle.meaning.specs.Book.{Form, Kind, kinds, isKind, isB, isT, isU, isD, isWhole, areFew, isOneBFirst, isInRange, isNotTooLong, isNoTripleTwice, isNoShorterTwice, linesRefusal, numberAt, orderOf, isGram}
+use Rattle.meaning.specs.Book.{Form, Kind, kinds, isKind, isB, isT, isU, isD, isWhole, areFew, isOneBFirst, isInRange, isNotTooLong, isCounted, isNoTripleTwice, isNoShorterTwice, linesRefusal, numberAt, orderOf, isGram}
 use Rattle.lines.specs.Kinds.{kindOf, mostOf}
 use Rattle.lines.proofs.Lines.{row-known, kind-row}
 use Rattle.book.specs.declared.survey.Survey.{Survey}
@@ -113,7 +113,7 @@ unfolding surveyFrom withLine
 survey-first acc n [] e = refl
 survey-first acc n (line ∷ lines) e = survey-first (withLine acc line) (suc n) lines (omega arith) ∙ (let n : eqb (acc .lines) 0 ≡ false = ne-eqb (acc .lines) 0 (omega arith) in rw n)
 
-survey-one : (lines : List (List ℤ)) → surveyFrom fresh lines .headed && eqb (getD (tallyFrom noTally lines) 1 0) 1 ≡ isOneBFirst lines
+pub survey-one : (lines : List (List ℤ)) → surveyFrom fresh lines .headed && eqb (getD (tallyFrom noTally lines) 1 0) 1 ≡ isOneBFirst lines
 unfolding surveyFrom withLine isOneBFirst
 survey-one [] = refl
 survey-one (line ∷ lines) =
@@ -150,16 +150,19 @@ survey-few : (lines : List (List ℤ)) → areAllFew (tallyFrom noTally lines) �
 unfolding isNotTooLong
 survey-few lines = few-rows (0 ∷ map (λ row. row .most) kinds) (tallyFrom noTally lines) lines 2 (drop 1 kinds) refl (λ j a b. tally-is j (omega arith) (omega arith) lines)
 
--- questions 6 and 20
+-- questions 6 and 20, and 21 before them
 abbrev pub repeatsRefusal : List (List ℤ) → ℕ
 repeatsRefusal lines = 6 unless isNoTripleTwice lines orelse 20 unless isNoShorterTwice lines
 
-pub survey-refusal : (form : Form) (lines : List (List ℤ)) → all (isWhole form) lines ≡ true → linesRefusal form lines ≡ surveyRefusal (surveyFrom fresh lines) (tallyFrom noTally lines) orelse repeatsRefusal lines
+abbrev pub lastRefusal : Form → List (List ℤ) → ℕ
+lastRefusal form lines = 21 unless isCounted form lines orelse repeatsRefusal lines
+
+pub survey-refusal : (form : Form) (lines : List (List ℤ)) → all (isWhole form) lines ≡ true → linesRefusal form lines ≡ surveyRefusal (surveyFrom fresh lines) (tallyFrom noTally lines) orelse lastRefusal form lines
 unfolding linesRefusal surveyRefusal
 survey-refusal form lines w =
     rw (w, survey-one lines, survey-ranged fresh lines, survey-few lines)
-    (sym (orelse-assoc (3 unless isOneBFirst lines) (4 unless all isInRange lines orelse 5 unless isNotTooLong lines) (repeatsRefusal lines)
-    ∙ ap (λ (m : ℕ). 3 unless isOneBFirst lines orelse m) (orelse-assoc (4 unless all isInRange lines) (5 unless isNotTooLong lines) (repeatsRefusal lines))))
+    (sym (orelse-assoc (3 unless isOneBFirst lines) (4 unless all isInRange lines orelse 5 unless isNotTooLong lines) (lastRefusal form lines)
+    ∙ ap (λ (m : ℕ). 3 unless isOneBFirst lines orelse m) (orelse-assoc (4 unless all isInRange lines) (5 unless isNotTooLong lines) (lastRefusal form lines))))
 
 -- a line that is not whole
 pub broken-refusal : (form : Form) (lines : List (List ℤ)) → all (isWhole form) lines ≡ false → linesRefusal form lines ≡ 2

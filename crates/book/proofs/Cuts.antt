@@ -2,17 +2,17 @@
 use Prim.Native.Nat.{ℕ, zero, suc, _+_, _-_, _≤_, _<_}
 use native.Mathlib.Omega.{arith}
 use mathlib.Core.Path.{_≡_, refl, sym, _∙_, ap}
-use mathlib.Core.Bool.{true, false}
+use mathlib.Core.Bool.{true, false, _&&_, and-true}
 use mathlib.Core.List.{List, [], _∷_}
 use borrow.Author.Tests.{eq-eqb, ne-eqb, leb-true, leb-false, le-leb, lt-leb}
 use lib.Dec.{leb}
 use lib.IntN.{ℤ, pos}
-use lib.ListN.{length, take, drop, length-drop}
+use lib.ListN.{length, getD, take, drop, length-drop}
 use lib.Seq.{getD-take, getD-drop, take-all, drop-drop, length-take-le}
 use Rattle.laws.specs.Integers.{eqℤ}
-use Rattle.laws.specs.Lists.{all}
-use Rattle.laws.proofs.Tests.{by-test, clash}
-use Rattle.meaning.specs.Book.{InList, numberAt, isP, sizeOf, isWhole, cutLines, loadedLines}
+use Rattle.laws.specs.Lists.{all, count, eqList}
+use Rattle.laws.proofs.Tests.{by-test, both, clash}
+use Rattle.meaning.specs.Book.{InList, numberAt, isB, isP, isT, sizeOf, isWhole, isOneBFirst, storedCounts, isCounted, cutLines, loadedLines}
 use Rattle.meaning.proofs.Sizes.{size-from}
 use Rattle.book.specs.Loaded.{sizeAt}
 
@@ -161,3 +161,35 @@ size-fits loaded at size e h = let t : leb (sizeOf InList (drop at loaded)) (len
 pub size-passes : (loaded : List ℤ) (at size : ℕ) → size ≡ sizeOf InList (drop at loaded) → length loaded - at < size → 0 ≡ sizeAt loaded at
 unfolding sizeAt
 size-passes loaded at size e h = let f : leb (sizeOf InList (drop at loaded)) (length loaded - at) ≡ false = lt-leb (sizeOf InList (drop at loaded)) (length loaded - at) (omega arith) in rw f
+
+-- ---- the B record at the list's front
+
+b-size : (line : List ℤ) → isB line ≡ true → sizeOf InList line ≡ 6
+unfolding sizeOf
+b-size line b = rw b
+
+counts-eq : (x y : ℤ) (p t : ℕ) → eqList eqℤ (x ∷ y ∷ []) (pos p ∷ pos t ∷ []) ≡ eqℤ x (pos p) && eqℤ y (pos t)
+counts-eq x y p t = simp and-true
+
+-- its last two numbers stand behind the first four
+six : (loaded : List ℤ) → 6 ≤ length loaded → drop 4 (take 6 loaded) ≡ numberAt loaded 4 ∷ numberAt loaded 5 ∷ []
+six [] h = absurd (omega arith)
+six (a ∷ []) h = absurd (omega arith)
+six (a ∷ b ∷ []) h = absurd (omega arith)
+six (a ∷ b ∷ c ∷ []) h = absurd (omega arith)
+six (a ∷ b ∷ c ∷ d ∷ []) h = absurd (omega arith)
+six (a ∷ b ∷ c ∷ d ∷ e ∷ []) h = absurd (omega arith)
+six (a ∷ b ∷ c ∷ d ∷ e ∷ f ∷ loaded) h = refl
+
+-- question 21, of a list whose lines are whole and whose first is a B line
+pub stored-counts : (loaded : List ℤ) → all (isWhole InList) (loadedLines loaded) ≡ true → isOneBFirst (loadedLines loaded) ≡ true
+    → isCounted InList (loadedLines loaded) ≡ eqℤ (numberAt loaded 4) (pos (count isP (loadedLines loaded))) && eqℤ (numberAt loaded 5) (pos (count isT (loadedLines loaded)))
+unfolding isCounted isOneBFirst
+stored-counts [] w b = clash b (ap isOneBFirst lines-end)
+stored-counts (z ∷ numbers) w b =
+    let loaded = z ∷ numbers in
+    let l = line-here loaded 0 (sizeAt loaded 0) w (omega arith) refl in
+    let first : isB (take (sizeAt loaded 0) loaded) ≡ true = both _ _ (rw (l .lines) at b) .0 in
+    let n : sizeAt loaded 0 ≡ 6 = sym (l .size-is) ∙ sym (size-take (sizeAt loaded 0) loaded (let h = l .some in omega arith)) ∙ b-size (take (sizeAt loaded 0) loaded) first in
+    let d : drop 4 (getD (loadedLines loaded) 0 []) ≡ numberAt loaded 4 ∷ numberAt loaded 5 ∷ [] = ap (λ (ls : List (List ℤ)). drop 4 (getD ls 0 [])) (l .lines) ∙ ap (λ (k : ℕ). drop 4 (take k loaded)) n ∙ six loaded (let h = l .inside in omega arith) in
+    ap (λ (xs : List ℤ). eqList eqℤ xs (storedCounts (loadedLines loaded))) d ∙ counts-eq (numberAt loaded 4) (numberAt loaded 5) (count isP (loadedLines loaded)) (count isT (loadedLines loaded))

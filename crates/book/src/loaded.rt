@@ -20,7 +20,7 @@ pub fn size_at(book: &[i32], at: usize) -> usize
     requires { ⌜ at ≤ length (now book) ⌝ }
     ensures { λ r. ⌜ r ≡ sizeAt (now (book .entry)) at ⌝ }
 {
-    let size = lines::size_of(&book[at..]);
+    let size = lines::size_of(&book[at..], lines::B_IN_LIST);
     if size <= book.len() - at {
         return size;
     }

@@ -15,7 +15,7 @@ use Rattle.laws.proofs.Tests.{both, by-test}
 use Rattle.laws.proofs.Linear.{signed}
 use Rattle.laws.proofs.Order.{yes-≡}
 use Rattle.meaning.specs.Questions.{withinℤ}
-use Rattle.meaning.specs.Book.{kinds, isKind, Form, InText, numberAt, naturalAt, isB, isP, isT, isU, isD, isPhraseLength, phraseSize, sizeOf, isWhole, isScore, isPhraseWord, isHistoryWord, isLastWord, isLoneWord, isWeight, rangesB, rangesP, rangesT, rangesU, rangesD, isInRange, orderOf}
+use Rattle.meaning.specs.Book.{kinds, isKind, Form, sizeB, numberAt, naturalAt, isB, isP, isT, isU, isD, isPhraseLength, phraseSize, sizeOf, isWhole, isScore, isPhraseWord, isHistoryWord, isLastWord, isLoneWord, isWeight, rangesB, rangesP, rangesT, rangesU, rangesD, isInRange, orderOf}
 use Rattle.lines.specs.Kinds.{kindOf}
 
 -- ---- the kind
@@ -83,7 +83,7 @@ module _ (line : List ℤ) where
   pub phrase-both : isPhraseLength (numberAt line 1) ≡ true → isPhraseLength (numberAt line 2) ≡ true → naturalAt line 1 + naturalAt line 2 + 4 ≡ phraseSize line
   phrase-both h k = rw (h, k)
 
-  pub size-b : (form : Form) → isB line ≡ true → 4 ≡ sizeOf form line
+  pub size-b : (form : Form) → isB line ≡ true → sizeB form ≡ sizeOf form line
   unfolding sizeOf
   size-b form h = rw h
 
@@ -131,15 +131,15 @@ module _ (line : List ℤ) where
   unfolding isInRange
   range-none h k l m n = rw (h, k, l, m, n)
 
-pub whole-empty : (line : List ℤ) → length line ≡ 0 → false ≡ isWhole InText line
+pub whole-empty : (form : Form) (line : List ℤ) → length line ≡ 0 → false ≡ isWhole form line
 unfolding isWhole
-whole-empty [] h = refl
-whole-empty (z ∷ line) h = absurd (omega arith)
+whole-empty form [] h = refl
+whole-empty form (z ∷ line) h = absurd (omega arith)
 
-pub whole-some : (line : List ℤ) (n : ℕ) → (length line ≡ 0 → ⊥) → n ≡ sizeOf InText line → eqb (length line) n ≡ isWhole InText line
+pub whole-some : (form : Form) (line : List ℤ) (n : ℕ) → (length line ≡ 0 → ⊥) → n ≡ sizeOf form line → eqb (length line) n ≡ isWhole form line
 unfolding isWhole
-whole-some [] n h e = absurd (h refl)
-whole-some (z ∷ line) n h e = rw e
+whole-some form [] n h e = absurd (h refl)
+whole-some form (z ∷ line) n h e = rw e
 
 -- ---- the ranges, their tests asked one after the other
 

@@ -9,8 +9,8 @@ ghost use lib.ListN.{length, drop};
 ghost use Rattle.laws.specs.Lists.{all};
 ghost use Rattle.meaning.specs.Bounds.{wordSpan};
 ghost use Rattle.meaning.specs.Questions.{withinℤ};
-ghost use Rattle.laws.specs.Integers.{natOf};
-ghost use Rattle.meaning.specs.Book.{Form, InText, numberAt, naturalAt, isKind, isPhraseLength, phraseSize, sizeOf, isWhole, isScore, isWord, isPhraseWord, isHistoryWord, isLastWord, isLoneWord, isWeight, rangesB, rangesP, rangesT, rangesU, rangesD, isInRange, orderOf, kinds};
+ghost use Rattle.laws.specs.Integers.{eqℤ, natOf};
+ghost use Rattle.meaning.specs.Book.{Form, sizeB, numberAt, naturalAt, isKind, isPhraseLength, phraseSize, sizeOf, isWhole, isScore, isWord, isPhraseWord, isHistoryWord, isLastWord, isLoneWord, isWeight, rangesB, rangesP, rangesT, rangesU, rangesD, isInRange, orderOf, kinds};
 ghost use Rattle.lines.specs.Kinds.{kindOf, mostOf};
 
 // "At most 4,096 P .. lines."
@@ -18,6 +18,11 @@ pub const PHRASES_MOST: usize = 4096;
 
 // "Up to 8,192 lines of each kind": T, U and D.
 pub const GRAMS_MOST: usize = 8192;
+
+// How many numbers a B line takes in a text, and how many in a loaded list, where the counts of the P and the T lines stand at its end.
+pub const B_IN_TEXT: usize = 4;
+
+pub const B_IN_LIST: usize = 6;
 
 // How many kinds there are, and how many lines of each a book may have, by the kind's number; there is no kind 0.
 pub const KINDS: usize = 5;
@@ -55,12 +60,19 @@ pub fn word_at(line: &[i32], k: usize) -> u16
     (natural_at(line, k) % WORD_SPAN) as u16
 }
 
+// Number k of the line is n.
+pub fn is_number(line: &[i32], k: usize, n: usize) -> bool
+    ensures { λ r. ⌜ r ≡ eqℤ (numberAt (now (line .entry)) k) (pos n) ⌝ }
+{
+    let x = number_at(line, k);
+    if x < 0 { false } else { x as usize == n }
+}
+
 // The line is of the kind k, row k of the table: 1 for B, 2 for P, 3 for T, 4 for U, 5 for D.
 pub fn is_kind(line: &[i32], k: usize) -> bool
     ensures { λ r. ⌜ r ≡ isKind k (now (line .entry)) ⌝ }
 {
-    let x = number_at(line, 0);
-    if x < 0 { false } else { x as usize == k }
+    is_number(line, 0, k)
 }
 
 // The kind of the line, the number of its row in the table; 0 where it is of none.
@@ -116,12 +128,13 @@ fn size_of_phrase(line: &[i32]) -> usize
     natural_at(line, 1) + natural_at(line, 2) + 4
 }
 
-// How many numbers the line that stands at the front takes, in a text and in a loaded list alike; 0 where that cannot be told (question 2).
-pub fn size_of(line: &[i32]) -> usize
-    ensures { λ r. ⌜ ((form : Form) → r ≡ sizeOf form (now (line .entry))) ⌝ }
+// How many numbers the line that stands at the front takes, where a B line takes `b`: by nothing else do the lines of a text and of a loaded list
+// differ; 0 where that cannot be told (question 2).
+pub fn size_of(line: &[i32], b: usize) -> usize
+    ensures { λ r. ⌜ ((form : Form) → b ≡ sizeB form → r ≡ sizeOf form (now (line .entry))) ⌝ }
 {
     if is_kind(line, 1) {
-        return 4;
+        return b;
     }
     if is_kind(line, 2) {
         return size_of_phrase(line);
@@ -138,14 +151,14 @@ pub fn size_of(line: &[i32]) -> usize
     0
 }
 
-// Question 2, of a text's line.
-pub fn is_whole(line: &[i32]) -> bool
-    ensures { λ r. ⌜ r ≡ isWhole InText (now (line .entry)) ⌝ }
+// Question 2, of a line, where a B line takes `b` numbers.
+pub fn is_whole(line: &[i32], b: usize) -> bool
+    ensures { λ r. ⌜ ((form : Form) → b ≡ sizeB form → r ≡ isWhole form (now (line .entry))) ⌝ }
 {
     if line.len() == 0 {
         return false;
     }
-    line.len() == size_of(line)
+    line.len() == size_of(line, b)
 }
 
 // A score u, g or s, or a back-off weight k.

@@ -1,5 +1,5 @@
 -- Questions 3 to 6 and 20 by the survey: what an answer of `surveyRefusal` and of the comparison of the n-grams says of all lines.
-use Prim.Native.Nat.{ℕ, _+_, _-_, _≤_, _<_}
+use Prim.Native.Nat.{ℕ, zero, suc, _+_, _-_, _≤_, _<_}
 use native.Mathlib.Omega.{arith}
 use mathlib.Core.Path.{_≡_, refl, sym, _∙_, ap, ap₂}
 use mathlib.Core.Bool.{Bool, true, false, _&&_}
@@ -12,9 +12,9 @@ use Rattle.laws.specs.Lists.{all, any, keep, count, noneTwice, numbersFrom}
 use Rattle.laws.proofs.Lists.{keep-length, keep-mem, getD-mem, all-mem, mem-any, mem-numbers, count-none}
 use Rattle.laws.proofs.Tests.{by-test, is-false, clash}
 use Rattle.meaning.specs.Questions.{_unless_, _orelse_, number}
-use Rattle.meaning.specs.Book.{Form, InList, kinds, isKind, isU, isD, isWhole, isOneBFirst, isInRange, isNoTripleTwice, isNoShorterTwice, linesRefusal, orderOf, isGram, bookOfLines, loadedLines}
+use Rattle.meaning.specs.Book.{Form, InList, kinds, isKind, isU, isD, isWhole, isOneBFirst, isInRange, isCounted, isNoTripleTwice, isNoShorterTwice, linesRefusal, orderOf, isGram, bookOfLines, loadedLines}
 use Rattle.meaning.specs.declared.Refusal.{Refusal}
-use Rattle.meaning.proofs.Chains.{rest-passes, test-passes}
+use Rattle.meaning.proofs.Chains.{first-passes, rest-passes, test-passes}
 use Rattle.ngrams.specs.Parts.{recordsMost, recordAt, KeptRecords}
 use Rattle.ngrams.specs.declared.Key.{Key}
 use Rattle.ngrams.specs.Grams.{keyAt, keysIn, gramsIn, sameKey, repeatRefusal, Indexed}
@@ -25,21 +25,22 @@ use Rattle.lines.specs.Kinds.{mostOf}
 use Rattle.book.specs.declared.survey.Survey.{Survey}
 use Rattle.book.specs.declared.loaded.Surveyed.{Surveyed}
 use Rattle.book.specs.declared.loaded.Surveyed.the-variants.{Whole, Broken}
-use Rattle.book.specs.Survey.{isFew, areAllFew, shorterCount, gramCount, surveyRefusal}
+use Rattle.book.specs.Survey.{noTally, tallyFrom, isFew, areAllFew, shorterCount, gramCount, surveyRefusal}
 use Rattle.book.specs.Loaded.{SurveyOf}
-use Rattle.book.proofs.Counts.{tally-is, grams-counted, repeatsRefusal, survey-refusal}
+use Rattle.book.proofs.Counts.{tally-is, grams-counted, survey-one, repeatsRefusal, lastRefusal, survey-refusal}
+use Rattle.book.proofs.Cuts.{stored-counts}
 use Rattle.book.proofs.Gathered.{grams-long, grams-hold}
-use Rattle.loading.specs.Loaded.{WholeAs, SurveyIs, Known}
+use Rattle.loading.specs.Loaded.{WholeAs, SurveyIs, storesCounts, CountedAs, Known}
 use Rattle.meaning.proofs.Numbered.{number-from, refused-first}
 
 -- ════ questions 3 to 5
 
 -- it is one of three refusals, or none
-pub judged-none : (s : Survey) (tally : List ℕ) (k : ℕ) → k ≡ surveyRefusal s tally → (k ≡ 3 → ⊥) → (k ≡ 4 → ⊥) → (k ≡ 5 → ⊥) → 0 ≡ surveyRefusal s tally
+pub judged-none : (s : Survey) (tally : List ℕ) (k : ℕ) → k ≡ surveyRefusal s tally → (k ≡ 3 → ⊥) → (k ≡ 4 → ⊥) → (k ≡ 5 → ⊥) → surveyRefusal s tally ≡ 0
 unfolding surveyRefusal
 judged-none s tally k e three four five = by (s .headed && eqb (getD tally 1 0) 1) (s .ranged) (areAllFew tally) e
   where
-    by : (a b c : Bool) → k ≡ (3 unless a orelse 4 unless b orelse 5 unless c) → 0 ≡ (3 unless a orelse 4 unless b orelse 5 unless c)
+    by : (a b c : Bool) → k ≡ (3 unless a orelse 4 unless b orelse 5 unless c) → (3 unless a orelse 4 unless b orelse 5 unless c) ≡ 0
     by true true true q = refl
     by true true false q = absurd (five q)
     by true false c q = absurd (four q)
@@ -90,9 +91,9 @@ compared-none lines k e six twenty = by (isNoTripleTwice lines) (isNoShorterTwic
     by true false q = absurd (twenty q)
     by false b q = absurd (six q)
 
-module _ {form : Form} {lines : List (List ℤ)} {index₀ index tally : List ℕ} {s : Survey} (w : WholeAs form lines index₀ index tally s) (room : recordAt (gramCount tally) ≤ length index) (four : surveyRefusal s tally ≡ 0) where
+module _ {form : Form} {lines : List (List ℤ)} {index₀ index tally : List ℕ} {s : Survey} (w : WholeAs form lines index₀ index tally s) (room : recordAt (gramCount tally) ≤ length index) (four : surveyRefusal s tally ≡ 0) (stored : isCounted form lines ≡ true) where
   last-refusal : linesRefusal form lines ≡ repeatsRefusal lines
-  last-refusal = survey-refusal form lines (w .whole) ∙ ap (λ (k : ℕ). k orelse repeatsRefusal lines) (ap₂ surveyRefusal (sym (w .surveyed)) (sym (w .tallied)) ∙ four)
+  last-refusal = survey-refusal form lines (w .whole) ∙ ap (λ (k : ℕ). k orelse lastRefusal form lines) (ap₂ surveyRefusal (sym (w .surveyed)) (sym (w .tallied)) ∙ four) ∙ rw stored
 
   -- how many lines there are of each kind, and of n-grams
   counted-kind : (k : ℕ) → 1 ≤ k → k ≤ length kinds → getD tally k 0 ≡ count (isKind k) lines
@@ -149,13 +150,43 @@ module _ {form : Form} {lines : List (List ℤ)} {index₀ index tally : List �
             only-triples;
       }
 
--- a refusal by questions 3 to 5 is the lines' refusal
-pub judged-so : {form : Form} {lines : List (List ℤ)} {index₀ index tally : List ℕ} {s : Survey} → WholeAs form lines index₀ index tally s → (refusal : Refusal) → number refusal ≡ surveyRefusal s tally
-    → linesRefusal form lines ≡ number refusal
-judged-so {form} {lines} w refusal e =
-    survey-refusal form lines (w .whole)
-    ∙ ap (λ (j : ℕ). j orelse repeatsRefusal lines) (ap₂ surveyRefusal (sym (w .surveyed)) (sym (w .tallied)) ∙ sym e)
-    ∙ refused-first (number refusal) _ (number-from refusal)
+-- ════ questions 3 to 5 and 21
+
+module _ {form : Form} {lines : List (List ℤ)} {index₀ index tally : List ℕ} {s : Survey} {counted : Bool} (w : WholeAs form lines index₀ index tally s) (c : CountedAs form lines counted) where
+  -- where 3 to 5 pass, what was found is what 21 asks
+  pub stored-so : surveyRefusal s tally ≡ 0 → counted ≡ isCounted form lines
+  unfolding surveyRefusal
+  stored-so e =
+      let headed = test-passes 2 (s .headed && eqb (getD tally 1 0) 1) (first-passes (3 unless (s .headed && eqb (getD tally 1 0) 1)) _ e) in
+      c (w .whole) (sym (survey-one lines) ∙ rw (sym (w .surveyed), sym (w .tallied)) headed)
+
+  asked-so : surveyRefusal s tally orelse lastRefusal form lines ≡ (surveyRefusal s tally orelse 21 unless counted) orelse repeatsRefusal lines
+  asked-so = by (surveyRefusal s tally) stored-so
+    where
+      by : (k : ℕ) → (k ≡ 0 → counted ≡ isCounted form lines) → k orelse lastRefusal form lines ≡ (k orelse 21 unless counted) orelse repeatsRefusal lines
+      by zero h = rw (h refl)
+      by (suc k) h = refl
+
+  -- a refusal by them is the lines' refusal
+  pub judged-so : (refusal : Refusal) → number refusal ≡ surveyRefusal s tally orelse 21 unless counted → linesRefusal form lines ≡ number refusal
+  judged-so refusal e =
+      survey-refusal form lines (w .whole)
+      ∙ ap (λ (j : ℕ). j orelse lastRefusal form lines) (ap₂ surveyRefusal (sym (w .surveyed)) (sym (w .tallied)))
+      ∙ asked-so
+      ∙ ap (λ (j : ℕ). j orelse repeatsRefusal lines) (sym e)
+      ∙ refused-first (number refusal) _ (number-from refusal)
+
+-- one of 3 to 5 refuses
+pub judged-first : {j k n : ℕ} (m : ℕ) → n ≡ j → n ≡ suc k → suc k ≡ j orelse m
+judged-first m e f = sym (ap (λ (i : ℕ). i orelse m) (sym e ∙ f))
+
+-- none of 3 to 5 does, and 21 is asked
+pub judged-stored : {j : ℕ} {counted found : Bool} → j ≡ 0 → counted ≡ found → 21 unless found ≡ j orelse 21 unless counted
+judged-stored e f = rw (e, f)
+
+-- none of them refuses
+pub judged-passed : (s : Survey) (tally : List ℕ) (counted : Bool) → surveyRefusal s tally orelse 21 unless counted ≡ 0 → (surveyRefusal s tally ≡ 0) × (counted ≡ true)
+judged-passed s tally counted e = (first-passes (surveyRefusal s tally) _ e, test-passes 20 counted (rest-passes (surveyRefusal s tally) _ e))
 
 -- ════ a loaded list
 
@@ -163,3 +194,13 @@ judged-so {form} {lines} w refusal e =
 pub survey-loaded : (loaded : List ℤ) (index₀ index₁ tally : List ℕ) (r : Surveyed) → SurveyOf loaded index₀ index₁ tally r → SurveyIs InList (loadedLines loaded) index₀ index₁ tally r
 survey-loaded loaded index₀ index₁ tally (Whole s) e = record { whole = e .0; surveyed = e .1; tallied = e .2; gathered = e .3 }
 survey-loaded loaded index₀ index₁ tally Broken e = e
+
+-- where they are whole, so is the tally
+pub tally-loaded : (loaded : List ℤ) (index₀ index₁ tally : List ℕ) (r : Surveyed) → SurveyOf loaded index₀ index₁ tally r → all (isWhole InList) (loadedLines loaded) ≡ true → tally ≡ tallyFrom noTally (loadedLines loaded)
+tally-loaded loaded index₀ index₁ tally (Whole s) e w = e .2
+tally-loaded loaded index₀ index₁ tally Broken e w = clash w e
+
+-- question 21 by the numbers that stand behind the first four: they are the last two of the B record
+pub stored-loaded : (loaded : List ℤ) (tally : List ℕ) (counted : Bool) → counted ≡ storesCounts loaded tally → (all (isWhole InList) (loadedLines loaded) ≡ true → tally ≡ tallyFrom noTally (loadedLines loaded)) → CountedAs InList (loadedLines loaded) counted
+stored-loaded loaded tally counted e t w b =
+    e ∙ rw (t w, tally-is 2 (omega arith) (omega arith) (loadedLines loaded), tally-is 3 (omega arith) (omega arith) (loadedLines loaded)) (sym (stored-counts loaded w b))

@@ -1,12 +1,14 @@
--- What the lines of a book answer to questions 2 to 6 and 20, and what a search has of a book that passes them.
+-- What the lines of a book answer to questions 2 to 6, 21 and 20, and what a search has of a book that passes them.
 use Prim.Native.Nat.{ℕ}
 use mathlib.Core.Path.{_≡_}
-use mathlib.Core.Bool.{true, false}
+use mathlib.Core.Bool.{Bool, true, false, _&&_}
 use mathlib.Core.List.{List}
-use lib.IntN.{ℤ}
+use lib.IntN.{ℤ, pos}
+use lib.ListN.{getD}
+use Rattle.laws.specs.Integers.{eqℤ}
 use Rattle.laws.specs.Lists.{all}
 use Rattle.meaning.specs.Questions.{number}
-use Rattle.meaning.specs.Book.{Form, isWhole, Book}
+use Rattle.meaning.specs.Book.{Form, numberAt, isWhole, isOneBFirst, isCounted, Book}
 use Rattle.meaning.specs.declared.Checked.{Checked}
 use Rattle.meaning.specs.declared.Checked.the-variants.{Passed, Refused as CheckRefused}
 use Rattle.ngrams.specs.Grams.{gramsIn, Listing}
@@ -39,7 +41,15 @@ abbrev pub SurveyIs : Form → List (List ℤ) → List ℕ → List ℕ → Lis
 SurveyIs form lines index₀ index₁ tally (Whole s) = WholeAs form lines index₀ index₁ tally s
 SurveyIs form lines index₀ index₁ tally Broken = all (isWhole form) lines ≡ false
 
--- ════ what questions 2 to 6 and 20 answer
+-- the two counts that stand in a loaded list behind the first four numbers are those of the tally
+abbrev pub storesCounts : List ℤ → List ℕ → Bool
+storesCounts loaded tally = eqℤ (numberAt loaded 4) (pos (getD tally 2 0)) && eqℤ (numberAt loaded 5) (pos (getD tally 3 0))
+
+-- what question 21 finds, of lines that pass 2 and 3
+abbrev pub CountedAs : Form → List (List ℤ) → Bool → Type 0
+CountedAs form lines counted = all (isWhole form) lines ≡ true → isOneBFirst lines ≡ true → counted ≡ isCounted form lines
+
+-- ════ what questions 2 to 6, 21 and 20 answer
 
 -- none refuses: how many n-grams the book has and how many of them are shorter than a triple, and its n-grams as indexed records
 pub record Known (refusal : ℕ) (book : Book) (index : List ℕ) (grams : Grams) : Type 0 where

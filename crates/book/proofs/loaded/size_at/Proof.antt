@@ -1,5 +1,5 @@
 -- The line at the front of what is left, if all of it is there.
-use mathlib.Core.Path.{ap, _∙_}
+use mathlib.Core.Path.{refl, ap, _∙_}
 use Rattle.laws.proofs.Lists.{part-rest}
 use Rattle.meaning.specs.Book.{InList, sizeOf}
 use Rattle.book.proofs.Cuts.{size-fits, size-passes}
@@ -26,10 +26,10 @@ sub-if1 : tie.Need-sub-if1
 sub-if1 c = search needs
 
 returns : tie.Need-returns
-returns c = size-fits (c .before .before .before .args .book .now) (c .before .before .before .args .at) (c .before .size-of .result) (c .before .size-of .ensures InList ∙ ap (sizeOf InList) (part-rest (c .before .before .before .args .book .now) (c .before .before .before .args .at))) (c .if1 .taken)
+returns c = size-fits (c .before .before .before .args .book .now) (c .before .before .before .args .at) (c .before .size-of .result) (c .before .size-of .ensures InList refl ∙ ap (sizeOf InList) (part-rest (c .before .before .before .args .book .now) (c .before .before .before .args .at))) (c .if1 .taken)
 
 returns-2 : tie.Need-returns-2
-returns-2 c = size-passes (c .before .before .before .args .book .now) (c .before .before .before .args .at) (c .before .size-of .result) (c .before .size-of .ensures InList ∙ ap (sizeOf InList) (part-rest (c .before .before .before .args .book .now) (c .before .before .before .args .at))) (c .if1 .left)
+returns-2 c = size-passes (c .before .before .before .args .book .now) (c .before .before .before .args .at) (c .before .size-of .result) (c .before .size-of .ensures InList refl ∙ ap (sizeOf InList) (part-rest (c .before .before .before .args .book .now) (c .before .before .before .args .at))) (c .if1 .left)
 
 pub size-at-spec : {M : Type 1} → statement M
 size-at-spec =

@@ -18,13 +18,13 @@ same-length : tie.Need-same-length
 same-length c = search needs
 
 returns : tie.Need-returns
-returns c = λ form lines index₀ s w four. sym (compared-so w (c .before .before .before .before .before .before .before .before .pre .0) four) ∙ ap (repeatRefusal (c .before .before .before .before .before .before .before .before .args .index .now)) (sym (c .before .before .before .before .before .gram-count .ensures)) ∙ sym (c .before .before .before .index-all .ensures .answer) ∙ c .if1 .taken
+returns c = λ form lines index₀ s w four stored. sym (compared-so w (c .before .before .before .before .before .before .before .before .pre .0) four stored) ∙ ap (repeatRefusal (c .before .before .before .before .before .before .before .before .args .index .now)) (sym (c .before .before .before .before .before .gram-count .ensures)) ∙ sym (c .before .before .before .index-all .ensures .answer) ∙ c .if1 .taken
 
 same-length-2 : tie.Need-same-length-2
 same-length-2 c = search needs
 
 returns-2 : tie.Need-returns-2
-returns-2 c = λ form lines index₀ s w four. sym (compared-so w (c .before .before .before .before .before .before .before .before .before .pre .0) four) ∙ ap (repeatRefusal (c .before .before .before .before .before .before .before .before .before .args .index .now)) (sym (c .before .before .before .before .before .before .gram-count .ensures)) ∙ sym (c .before .before .before .before .index-all .ensures .answer) ∙ c .if2 .taken
+returns-2 c = λ form lines index₀ s w four stored. sym (compared-so w (c .before .before .before .before .before .before .before .before .before .pre .0) four stored) ∙ ap (repeatRefusal (c .before .before .before .before .before .before .before .before .before .args .index .now)) (sym (c .before .before .before .before .before .before .gram-count .ensures)) ∙ sym (c .before .before .before .before .index-all .ensures .answer) ∙ c .if2 .taken
 
 shorter-count-requires : tie.Need-shorter-count-requires
 shorter-count-requires c κs = (c .before .before .before .before .before .before .before .before .before .pre .1 .0, omega (arith, few-grams (c .before .before .before .before .before .before .before .before .before .args .tally .now) (c .before .before .before .before .before .before .before .before .before .pre .1 .1)))
@@ -33,12 +33,12 @@ same-length-3 : tie.Need-same-length-3
 same-length-3 c = search needs
 
 returns-3 : tie.Need-returns-3
-returns-3 c = λ form lines index₀ s w four.
+returns-3 c = λ form lines index₀ s w four stored.
     let x = c .before .before .before .before .before .index-all .ensures in
     let n = c .before .before .before .before .before .before .before .gram-count .ensures in
     let i : Indexed (c .before .before .before .before .before .index-all .last .0) (gramCount (c .before .before .before .before .before .before .before .before .before .before .args .tally .now)) = rw n at (x .indexed) in
     rw (n, c .shorter-count .ensures)
-    (different-so w (c .before .before .before .before .before .before .before .before .before .before .pre .0) four (x .kept) (c .before .before .before .before .before .index-all .result) (x .answer ∙ ap (repeatRefusal (c .before .before .before .before .before .before .before .before .before .before .args .index .now)) n) (c .before .before .if1 .left) (c .before .if2 .left) i)
+    (different-so w (c .before .before .before .before .before .before .before .before .before .before .pre .0) four stored (x .kept) (c .before .before .before .before .before .index-all .result) (x .answer ∙ ap (repeatRefusal (c .before .before .before .before .before .before .before .before .before .before .args .index .now)) n) (c .before .before .if1 .left) (c .before .if2 .left) i)
 
 pub compare-spec : {M : Type 1} → statement M
 compare-spec =
