@@ -10,7 +10,7 @@ use lib.ListN.{length, take, drop, set}
 use Rattle.laws.proofs.Tests.{by-test, clash}
 use Rattle.fields.specs.Scan.{Scan, Line, Field, next, run, atLine, scanned, emit, emitLine}
 use Rattle.fields.specs.Fields.{lineLength}
-use Rattle.text.specs.Walk.{RowRead}
+use Rattle.text.specs.Walk.{textNumbers, RowRead}
 use Rattle.fields.specs.Fields.{start, FieldRead}
 use Rattle.fields.specs.declared.Piece.{Piece}
 use Rattle.fields.proofs.Cut.{Sort, sort}
@@ -19,7 +19,7 @@ use Rattle.text.proofs.Row.{Writing, write-start, write-put, write-coun
 use Rattle.fields.proofs.Fields.{field-ends, walk-end}
 use Rattle.text.proofs.Numbers.{book-numbers}
 use Rattle.text.proofs.Lines.{At, next-line, loaded-next}
-use Rattle.meaning.specs.Book.{textLines, loadedOf}
+use Rattle.meaning.specs.Book.{textLines}
 
 -- the line from `at` on was read up to `end`, where a field starts
 pub record InRow (t : List ℕ) (at : ℕ) (old row : List ℤ) (line : Bool) (count end : ℕ) : Type 0 where
@@ -104,17 +104,17 @@ emit-few book s (b ∷ bs) = by (sort b) (emit-few book (next book s b) bs)
 -- the line from `at` to e as numbers, and the lines after it
 pub record NextRow (t : List ℕ) (at e : ℕ) : Type 0 where
   pub lines : textLines (drop at t) ≡ emitLine true Line (drop at t) ∷ textLines (drop e t)
-  pub loaded : loadedOf (drop at t) ≡ emitLine true Line (drop at t) ++ loadedOf (drop e t)
+  pub loaded : textNumbers (drop at t) ≡ emitLine true Line (drop at t) ++ textNumbers (drop e t)
   pub then : At t e
 
 pub next-row : (t : List ℕ) (at e : ℕ) → At t at → at < length t → e ≡ at + lineLength (drop at t) → NextRow t at e
 next-row t at e a h q =
     let n = next-line t at e a h q in
     let k : lineLength (drop at t) ≡ e - at = omega arith in
-    let r : loadedOf (take (e - at) (drop at t)) ≡ emitLine true Line (drop at t) =
+    let r : textNumbers (take (e - at) (drop at t)) ≡ emitLine true Line (drop at t) =
     sym (emit-line true Line (drop at t) ∙ ap (λ (m : ℕ). emit true Line (take m (drop at t))) k ∙ book-numbers (take (e - at) (drop at t)) (n .part)) in
     record {
       lines = n .lines ∙ ap (λ (x : List ℤ). x ∷ textLines (drop e t)) r;
-      loaded = loaded-next n ∙ ap (λ (x : List ℤ). x ++ loadedOf (drop e t)) r;
+      loaded = loaded-next n ∙ ap (λ (x : List ℤ). x ++ textNumbers (drop e t)) r;
       then = n .then;
     }

@@ -10,8 +10,9 @@ use lib.ListN.{length, take, drop, length-drop, drop-of-length-le}
 use lib.Seq.{drop-drop}
 use Rattle.laws.specs.Lists.{isEmpty, concat}
 use Rattle.laws.proofs.Tests.{both, clash}
-use Rattle.meaning.specs.Book.{isTextLine, lineNumbers, isBookText, textLines, loadedOf}
+use Rattle.meaning.specs.Book.{isTextLine, lineNumbers, isBookText, textLines}
 use Rattle.meaning.specs.Numerals.{linesOf, split}
+use Rattle.text.specs.Walk.{textNumbers}
 use Rattle.fields.specs.Fields.{lineLength}
 use Rattle.fields.proofs.Cut.{line, cut, left, Sort, sort, isBlank, isRest, not-blank, lines-are, book-is, book-empty}
 
@@ -66,11 +67,11 @@ lines-numbered : (t : List ℕ) → textLines t ≡ numbered (left t)
 unfolding textLines
 lines-numbered t = ap (map lineNumbers) (lines-are t)
 
-loaded-lines : (t : List ℕ) → loadedOf t ≡ concat (textLines t)
-unfolding loadedOf
+loaded-lines : (t : List ℕ) → textNumbers t ≡ concat (textLines t)
+unfolding textNumbers
 loaded-lines t = refl
 
-loaded-numbered : (t : List ℕ) → loadedOf t ≡ concat (numbered (left t))
+loaded-numbered : (t : List ℕ) → textNumbers t ≡ concat (numbered (left t))
 loaded-numbered t = loaded-lines t ∙ ap concat (lines-numbered t)
 
 -- what is not empty and goes on as a book's text does is one
@@ -80,7 +81,7 @@ book-of (b ∷ bs) e h = book-is b bs ∙ h
 
 record Stepped (t : List ℕ) : Type 0 where
   part : isBookText (take (lineLength t) t) ≡ true
-  lines : textLines t ≡ loadedOf (take (lineLength t) t) ∷ textLines (drop (lineLength t) t)
+  lines : textLines t ≡ textNumbers (take (lineLength t) t) ∷ textLines (drop (lineLength t) t)
   rest : isRest true (left (drop (lineLength t) t)) ≡ true
   some : 0 < lineLength t
   inside : lineLength t ≤ length t
@@ -88,7 +89,7 @@ record Stepped (t : List ℕ) : Type 0 where
 -- p is the line l with its byte 10, and u has the lines ls
 module _ (p u : List ℕ) (l : List (List ℕ)) where
   one-line : (ls : List (List (List ℕ))) → line (cut p) ≡ l → cut p .lines ≡ blank → left u ≡ ls → isEmpty ls ≡ false → isRest true (l ∷ ls) ≡ true
-      → (isBookText p ≡ true) × (numbered (l ∷ ls) ≡ loadedOf p ∷ textLines u) × (isRest true (left u) ≡ true)
+      → (isBookText p ≡ true) × (numbered (l ∷ ls) ≡ textNumbers p ∷ textLines u) × (isRest true (left u) ≡ true)
   one-line [] e1 e2 e3 n g = clash refl n
   one-line (m ∷ ms) e1 e2 e3 n g =
       let hs = both (isTextLine l) (isRest true (m ∷ ms)) g in
@@ -132,7 +133,7 @@ at-end t at h = ap textLines (drop-of-length-le t h)
 -- the line from `at` to e, and the lines after it
 pub record Next (t : List ℕ) (at e : ℕ) : Type 0 where
   pub part : isBookText (take (e - at) (drop at t)) ≡ true
-  pub lines : textLines (drop at t) ≡ loadedOf (take (e - at) (drop at t)) ∷ textLines (drop e t)
+  pub lines : textLines (drop at t) ≡ textNumbers (take (e - at) (drop at t)) ∷ textLines (drop e t)
   pub then : At t e
   pub more : at < e
 
@@ -146,16 +147,16 @@ next-line t at e a h q =
       part = ap (λ (k : ℕ). isBookText (take k (drop at t))) n ∙ s .part;
       lines =
           s .lines
-          ∙ ap (λ (k : ℕ). loadedOf (take k (drop at t)) ∷ textLines (drop (lineLength (drop at t)) (drop at t))) (sym n)
-          ∙ ap (λ (x : List ℕ). loadedOf (take (e - at) (drop at t)) ∷ textLines x) u;
+          ∙ ap (λ (k : ℕ). textNumbers (take k (drop at t)) ∷ textLines (drop (lineLength (drop at t)) (drop at t))) (sym n)
+          ∙ ap (λ (x : List ℕ). textNumbers (take (e - at) (drop at t)) ∷ textLines x) u;
       then = record { good = ap (λ (x : List ℕ). isRest true (left x)) (sym u) ∙ s .rest; within = omega (arith, s .inside) };
       more = omega (arith, s .some);
     }
 
 -- the numbers of the line from `at` to e, and those of the lines after it
-pub loaded-next : {t : List ℕ} {at e : ℕ} → Next t at e → loadedOf (drop at t) ≡ loadedOf (take (e - at) (drop at t)) ++ loadedOf (drop e t)
+pub loaded-next : {t : List ℕ} {at e : ℕ} → Next t at e → textNumbers (drop at t) ≡ textNumbers (take (e - at) (drop at t)) ++ textNumbers (drop e t)
 loaded-next {t} {at} {e} n =
-    loaded-lines (drop at t) ∙ ap concat (n .lines) ∙ ap (λ (x : List ℤ). loadedOf (take (e - at) (drop at t)) ++ x) (sym (loaded-lines (drop e t)))
+    loaded-lines (drop at t) ∙ ap concat (n .lines) ∙ ap (λ (x : List ℤ). textNumbers (take (e - at) (drop at t)) ++ x) (sym (loaded-lines (drop e t)))
 
-pub loaded-end : (t : List ℕ) (at : ℕ) → length t ≤ at → loadedOf (drop at t) ≡ []
+pub loaded-end : (t : List ℕ) (at : ℕ) → length t ≤ at → textNumbers (drop at t) ≡ []
 loaded-end t at h = loaded-lines (drop at t) ∙ ap concat (at-end t at h)

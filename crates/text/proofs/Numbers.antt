@@ -12,8 +12,9 @@ use lib.IntN.{ℤ, pos, negℤ}
 use Rattle.laws.specs.Lists.{isEmpty, concat}
 use Rattle.laws.proofs.Tests.{both, clash}
 use Rattle.meaning.specs.Numerals.{isDigit, digitsValue, valueOf}
-use Rattle.meaning.specs.Book.{kindOfByte, lineNumbers, isBookText, textLines, loadedOf}
+use Rattle.meaning.specs.Book.{kindOfByte, lineNumbers, isBookText, textLines}
 use Rattle.meaning.specs.Direction.{isDirectionText, directionNumbers}
+use Rattle.text.specs.Walk.{textNumbers}
 use Rattle.fields.specs.Scan.{Scan, Line, Kind, Field, Minus, Digits, Broken, moreDigits, next, lineStart, afterNumber, run, atLine, signed, scanned, isMark, emit}
 use Rattle.fields.proofs.Cut.{Cut, line, cut, Sort, sort, areNumbers, isRest, book-is, book-empty, direction-is, lines-are}
 use Rattle.fields.proofs.Form.{accepted, stop, no-line, kind-is, letterBy, numberBy, positiveBy, digitsBy}
@@ -132,8 +133,8 @@ given book (b ∷ bs) s h = by (sort b) (given book bs) h
 
 -- ════ a book's numbers, and a direction's
 
-pub book-numbers : (t : List ℕ) → isBookText t ≡ true → emit true Line t ≡ loadedOf t
-unfolding loadedOf textLines
+pub book-numbers : (t : List ℕ) → isBookText t ≡ true → emit true Line t ≡ textNumbers t
+unfolding textNumbers textLines
 book-numbers [] h = clash h book-empty
 book-numbers (b ∷ bs) h =
     given true (b ∷ bs) Line (accepted true (b ∷ bs) Line ∙ sym (book-is b bs) ∙ h)
@@ -160,5 +161,5 @@ emit-few book s (b ∷ bs) = each (isMark b) (emit-few book (next book s b) bs)
     each true h = omega arith
     each false h = omega arith
 
-pub numbers-few : (t : List ℕ) → isBookText t ≡ true → length (loadedOf t) ≤ length t
+pub numbers-few : (t : List ℕ) → isBookText t ≡ true → length (textNumbers t) ≤ length t
 numbers-few t h = omega (arith, emit-few true Line t, ap length (book-numbers t h))

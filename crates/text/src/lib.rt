@@ -4,12 +4,12 @@ ghost use mathlib.Core.Path.{_≡_};
 ghost use mathlib.Core.Bool.{true};
 ghost use Prim.Native.Nat.{_≤_, _<_};
 ghost use lib.ListN.{length, set};
-ghost use Rattle.meaning.specs.Book.{isBookText, loadedOf};
+ghost use Rattle.meaning.specs.Book.{isBookText};
 ghost use Rattle.meaning.specs.Direction.{isDirectionText, directionNumbers};
 ghost use Rattle.meaning.specs.Reply.{writtenOver, filledWith};
 ghost use Rattle.fields.specs.Scan.{run, atLine, emit};
 ghost use Rattle.fields.specs.Fields.{start};
-ghost use Rattle.text.specs.Walk.{RowRead};
+ghost use Rattle.text.specs.Walk.{textNumbers, RowRead};
 
 // A line of a book's text that was read: how many numbers it has, its kind among them, and the place behind it. It is good where
 // each of its fields is, and the byte 10 ends it.
@@ -84,9 +84,9 @@ fn write_fields(book: bool, first: bool, text: &[u8], list: &mut [i32]) -> usize
 // Writes the numbers of a book's text at the beginning of a list that has room for them, and says how many they are.
 pub fn write_numbers(text: &[u8], book: &mut [i32]) -> usize
     requires { ⌜ isBookText (now text) ≡ true ⌝ }
-    requires { ⌜ length (loadedOf (now text)) ≤ length (now book) ⌝ }
-    ensures { λ r. ⌜ r ≡ length (loadedOf (now (text .entry))) ⌝ }
-    ensures { λ _. ⌜ now (book .exit) ≡ writtenOver (loadedOf (now (text .entry))) (now (book .entry)) ⌝ }
+    requires { ⌜ length (textNumbers (now text)) ≤ length (now book) ⌝ }
+    ensures { λ r. ⌜ r ≡ length (textNumbers (now (text .entry))) ⌝ }
+    ensures { λ _. ⌜ now (book .exit) ≡ writtenOver (textNumbers (now (text .entry))) (now (book .entry)) ⌝ }
 {
     write_fields(true, true, text, book)
 }

@@ -3,8 +3,8 @@ use mathlib.Core.Path.{ap, _∙_}
 use mathlib.Core.List.{List}
 use lib.IntN.{ℤ}
 use lib.ListN.{length}
-use Rattle.meaning.specs.Book.{loadedOf}
 use Rattle.meaning.specs.Reply.{filledWith}
+use Rattle.text.specs.Walk.{textNumbers}
 use Rattle.fields.proofs.Form.{book-run}
 use Rattle.text.proofs.Numbers.{book-numbers}
 use Rattle.meaning.proofs.Filled.{filled-room}
@@ -24,7 +24,7 @@ returns c =
     let k = c .before .write-fields in
     let q = book-numbers (e .args .text .now) (e .pre .0) in (
       k .ensures .0 ∙ ap length q,
-      k .ensures .1 ∙ ap (λ (x : List ℤ). filledWith x (e .args .book .now)) q ∙ filled-room (loadedOf (e .args .text .now)) (e .args .book .now) (e .pre .1),
+      k .ensures .1 ∙ ap (λ (x : List ℤ). filledWith x (e .args .book .now)) q ∙ filled-room (textNumbers (e .args .text .now)) (e .args .book .now) (e .pre .1),
     )
 
 pub write-numbers-spec : {M : Type 1} → statement M
