@@ -1,5 +1,5 @@
 -- The lines of a loaded book are the lines that it was made of; so a book that was read passes 2 to 6 in every later call.
-use Prim.Native.Nat.{ℕ, zero, suc, _≤_}
+use Prim.Native.Nat.{ℕ, zero, suc, _+_, _≤_}
 use native.Mathlib.Nat.{not-suc-le-zero, le-of-suc-le-suc}
 use native.Mathlib.Omega.{arith}
 use mathlib.Core.Path.{_≡_, refl, sym, _∙_, ap, subst}
@@ -104,18 +104,36 @@ read-book : (d eta u : ℤ) (lines : List (List ℤ)) → bookOfLines (withCount
 unfolding bookOfLines isGram orderOf
 read-book d eta u lines = refl
 
+-- the lines of a text that pass begin with its B line
+pub record TextBook (lines : List (List ℤ)) : Type 0 where
+  pub d : ℤ
+  pub eta : ℤ
+  pub u : ℤ
+  pub rest : List (List ℤ)
+  pub is : lines ≡ (pos 1 ∷ d ∷ eta ∷ u ∷ []) ∷ rest
+
+pub text-book : (lines : List (List ℤ)) → Passed InText lines → TextBook lines
+unfolding isOneBFirst
+text-book [] p = absurd (false≢true (p .one-b))
+text-book (line ∷ lines) p =
+    let b = text-b line (both (isB line) _ (p .one-b) .0) (both (isWhole InText line) _ (p .whole) .0) in
+    record { d = b .d; eta = b .eta; u = b .u; rest = lines; is = ap (λ (l : List ℤ). l ∷ lines) (b .is) }
+
 -- both, of the lines of any text
 pub record ReadAs (lines : List (List ℤ)) : Type 0 where
   pub passed : Passed InList (withCounts lines)
   pub book-is : bookOfLines (withCounts lines) ≡ bookOfLines lines
 
 pub read-as : (lines : List (List ℤ)) → Passed InText lines → ReadAs lines
-unfolding isOneBFirst
-read-as [] p = absurd (false≢true (p .one-b))
-read-as (line ∷ lines) p =
-    let b = text-b line (both (isB line) _ (p .one-b) .0) (both (isWhole InText line) _ (p .whole) .0) in
-    subst (λ (l : List ℤ). Passed InText (l ∷ lines) → ReadAs (l ∷ lines)) (sym (b .is))
-    (λ q. record { passed = read-lines (b .d) (b .eta) (b .u) lines q; book-is = read-book (b .d) (b .eta) (b .u) lines }) p
+read-as lines p =
+    let b = text-book lines p in
+    subst (λ (ls : List (List ℤ)). Passed InText ls → ReadAs ls) (sym (b .is))
+    (λ q. record { passed = read-lines (b .d) (b .eta) (b .u) (b .rest) q; book-is = read-book (b .d) (b .eta) (b .u) (b .rest) }) p
+
+-- the loaded book has two numbers more
+pub read-long : (lines : List (List ℤ)) → Passed InText lines → length (loadedBook lines) ≡ 2 + length (concat lines)
+unfolding loadedBook
+read-long lines p = let b = text-book lines p in rw (b .is) (omega arith)
 
 pub read-loaded : (lines : List (List ℤ)) → Passed InText lines → loadedLines (loadedBook lines) ≡ withCounts lines
 unfolding loadedBook

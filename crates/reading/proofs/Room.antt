@@ -10,11 +10,12 @@ use Rattle.laws.specs.Lists.{all, count, concat}
 use Rattle.laws.proofs.Bits.{one-le}
 use Rattle.laws.proofs.Lists.{count-cons}
 use Rattle.laws.proofs.Tests.{both, clash}
-use Rattle.meaning.specs.Book.{Form, InText, isWhole, isGram, textLines, loadedOf}
+use Rattle.meaning.specs.Book.{Form, InText, isWhole, isGram, textLines}
 use Rattle.meaning.proofs.Sizes.{four-numbers}
 use Rattle.fields.specs.Scan.{Scan, Line, Kind, Field, Minus, Digits, Broken, next, run, atLine, emit}
 use Rattle.fields.proofs.Cut.{Sort, sort}
 use Rattle.fields.proofs.Form.{broken, accepted, no-line, book-run}
+use Rattle.text.specs.Walk.{textNumbers}
 use Rattle.text.proofs.Numbers.{book-numbers}
 use Rattle.book.specs.Survey.{gramCount}
 use Rattle.book.proofs.Counts.{grams-counted}
@@ -85,7 +86,7 @@ four-each form (line ∷ lines) h =
 -- ---- so a line of an n-gram has eight bytes
 
 pub eight-bytes : {text index₀ index₁ tally : List ℕ} {s : Survey} {n : ℕ} → WholeText text index₀ index₁ tally s n → 8 * gramCount tally ≤ length text
-unfolding loadedOf
+unfolding textNumbers
 eight-bytes {text} w =
     let each = four-each InText (textLines text) (w .lines .whole) in
     let two = two-bytes text Line (book-run text (w .formed)) in

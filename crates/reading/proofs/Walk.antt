@@ -10,9 +10,9 @@ use lib.IntN.{ℤ}
 use lib.ListN.{length, getD, drop, length-append, drop-of-length-le}
 use Rattle.laws.specs.Lists.{all}
 use Rattle.laws.proofs.Tests.{clash}
-use Rattle.meaning.specs.Book.{InText, isWhole, isBookText, textLines, loadedOf}
+use Rattle.meaning.specs.Book.{InText, isWhole, isBookText, textLines}
 use Rattle.fields.specs.Scan.{Line, run, atLine, emitLine}
-use Rattle.text.specs.Walk.{RowRead}
+use Rattle.text.specs.Walk.{textNumbers, RowRead}
 use Rattle.text.specs.declared.TextLine.{TextLine}
 use Rattle.fields.proofs.Form.{book-text, book-run}
 use Rattle.text.proofs.Lines.{At, at-start, at-end, loaded-end}
@@ -30,12 +30,12 @@ use Rattle.reading.specs.Text.{WholeText}
 abbrev pub numbersAt : List ℕ → ℕ → List ℤ
 numbersAt text at = emitLine true Line (drop at text)
 
--- of a book's text, the lines before `at` were noted, and their numbers counted
+-- of a book's text, the lines before `at` were noted, and their numbers counted, beside two more
 pub record Noted (text : List ℕ) (index₀ : List ℕ) (acc : Survey) (tally index : List ℕ) (count at : ℕ) : Type 0 where
   pub line : At text at
   pub seen : Seen (textLines text) (textLines (drop at text)) index₀ acc tally index
   pub asked : all (isWhole InText) (textLines (drop at text)) ≡ all (isWhole InText) (textLines text)
-  pub total : count + length (loadedOf (drop at text)) ≡ length (loadedOf text)
+  pub total : count + length (textNumbers (drop at text)) ≡ 2 + length (textNumbers text)
 
 -- the invariant: the lines before `at` are good; they were noted, and `row` has a place for each number of a whole line
 pub record Walked (text : List ℕ) (index₀ : List ℕ) (acc : Survey) (tally index : List ℕ) (row : List ℤ) (count at : ℕ) : Type 0 where
@@ -43,14 +43,14 @@ pub record Walked (text : List ℕ) (index₀ : List ℕ) (acc : Survey) (tally 
   pub noted : isBookText text ≡ true → Noted text index₀ acc tally index count at
   pub within : at ≤ length text
   pub few : Few acc tally (at / 2)
-  pub short : count ≤ at
+  pub short : count ≤ at + 2
   pub long : length index ≡ length index₀
   pub places : length row ≡ 20
 
-pub walk-start : (text : List ℕ) (index : List ℕ) (row : List ℤ) → length row ≡ 20 → Walked text index fresh noTally index row 0 0
+pub walk-start : (text : List ℕ) (index : List ℕ) (row : List ℤ) → length row ≡ 20 → Walked text index fresh noTally index row 2 0
 walk-start text index row l = record {
   ends = refl;
-  noted = λ t. record { line = at-start text t; seen = seen-none (textLines text) index; asked = refl; total = zero-add (length (loadedOf text)) };
+  noted = λ t. record { line = at-start text t; seen = seen-none (textLines text) index; asked = refl; total = refl };
   within = omega arith;
   few = few-none;
   short = omega arith;
@@ -86,7 +86,7 @@ module _ {text : List ℕ} {index₀ tally index : List ℕ} {row row′ : List 
         line = n .then;
         seen = seen-next (p .seen) (w .few .each-kind) (n .lines);
         asked = sym (ap (all (isWhole InText)) (n .lines) ∙ ap (λ (x : Bool). x && all (isWhole InText) (textLines (drop (r .end) text))) e) ∙ p .asked;
-        total = omega (arith, p .total, f .counted g, ap length (n .loaded), length-append (numbersAt text at) (loadedOf (drop (r .end) text)));
+        total = omega (arith, p .total, f .counted g, ap length (n .loaded), length-append (numbersAt text at) (textNumbers (drop (r .end) text)));
       }
 
       -- it has four bytes at least: so even of the longest text there are not too many lines to count

@@ -95,7 +95,7 @@ returns-4 : tie.Need-returns-4 Inv-loop μ-loop
 returns-4 c =
     let k = c .before .before .before .before .before .before .before .read-row in
     walk-broken (c .before .before .before .before .before .before .before .before .before .before .loop .inv) (k .result) (k .ensures) (c .before .before .before .before .before .before .before .before .before .loop-test .taken) (good (c .before .before .before .before))
-    (sym (ap (isWhole InText) (row-is (c .before .before .before))) ∙ sym (c .before .is-whole .ensures) ∙ not-true _ (c .if4 .taken))
+    (sym (ap (isWhole InText) (row-is (c .before .before .before))) ∙ sym (c .before .is-whole .ensures InText refl) ∙ not-true _ (c .if4 .taken))
 
 array-share-prefix-row-2 : tie.Need-array-share-prefix-row-2 Inv-loop μ-loop
 array-share-prefix-row-2 c = omega (arith, c .before .before .before .before .before .before .before .before .before .read-row .ensures .same, c .before .before .before .before .before .before .before .before .before .before .before .before .loop .inv .places, c .before .before .before .before .before .if3 .left)
@@ -110,7 +110,7 @@ note-line-requires c κs =
 
 -- the line is whole, and noted
 whole : (c : tie.Else4 Inv-loop μ-loop) → isWhole InText (here (c .before .before .before .before)) ≡ true
-whole c = sym (ap (isWhole InText) (row-is (c .before .before .before))) ∙ sym (c .before .is-whole .ensures) ∙ not-false _ (c .if4 .left)
+whole c = sym (ap (isWhole InText) (row-is (c .before .before .before))) ∙ sym (c .before .is-whole .ensures InText refl) ∙ not-false _ (c .if4 .left)
 
 add-count : tie.Need-add-count Inv-loop μ-loop
 add-count c =
