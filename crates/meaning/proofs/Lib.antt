@@ -22,3 +22,4 @@ pub mod Demands
 pub mod Reach
 pub mod Rooms
 pub mod Numbered
+pub mod Revised

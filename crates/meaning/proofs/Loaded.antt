@@ -77,6 +77,15 @@ text-b line b w = let k : numberAt line 0 ≡ pos 1 = kind-is line 1 b in of lin
     of (a ∷ b ∷ c ∷ d ∷ []) k l = record { d = b; eta = c; u = d; is = ap (λ (z : ℤ). z ∷ b ∷ c ∷ d ∷ []) k }
     of (a ∷ b ∷ c ∷ d ∷ e ∷ line) k l = absurd (omega arith)
 
+-- what holds of all lines that begin with such a line holds of the lines of every text that passes
+pub text-ind : (Q : List (List ℤ) → Type 0) → ((d eta u : ℤ) (rest : List (List ℤ)) → Passed InText ((pos 1 ∷ d ∷ eta ∷ u ∷ []) ∷ rest) → Q ((pos 1 ∷ d ∷ eta ∷ u ∷ []) ∷ rest))
+    → (lines : List (List ℤ)) → Passed InText lines → Q lines
+unfolding isOneBFirst
+text-ind Q each [] p = absurd (false≢true (p .one-b))
+text-ind Q each (line ∷ rest) p =
+    let b = text-b line (both (isB line) _ (p .one-b) .0) (both (isWhole InText line) _ (p .whole) .0) in
+    subst (λ (l : List ℤ). Passed InText (l ∷ rest) → Q (l ∷ rest)) (sym (b .is)) (each (b .d) (b .eta) (b .u) rest) p
+
 -- the lines of every kind but B take the same numbers in a text and in a loaded list
 pub same-whole : (line : List ℤ) → isB line ≡ false → isWhole InList line ≡ isWhole InText line
 unfolding isWhole sizeOf
@@ -104,36 +113,18 @@ read-book : (d eta u : ℤ) (lines : List (List ℤ)) → bookOfLines (withCount
 unfolding bookOfLines isGram orderOf
 read-book d eta u lines = refl
 
--- the lines of a text that pass begin with its B line
-pub record TextBook (lines : List (List ℤ)) : Type 0 where
-  pub d : ℤ
-  pub eta : ℤ
-  pub u : ℤ
-  pub rest : List (List ℤ)
-  pub is : lines ≡ (pos 1 ∷ d ∷ eta ∷ u ∷ []) ∷ rest
-
-pub text-book : (lines : List (List ℤ)) → Passed InText lines → TextBook lines
-unfolding isOneBFirst
-text-book [] p = absurd (false≢true (p .one-b))
-text-book (line ∷ lines) p =
-    let b = text-b line (both (isB line) _ (p .one-b) .0) (both (isWhole InText line) _ (p .whole) .0) in
-    record { d = b .d; eta = b .eta; u = b .u; rest = lines; is = ap (λ (l : List ℤ). l ∷ lines) (b .is) }
-
 -- both, of the lines of any text
 pub record ReadAs (lines : List (List ℤ)) : Type 0 where
   pub passed : Passed InList (withCounts lines)
   pub book-is : bookOfLines (withCounts lines) ≡ bookOfLines lines
 
 pub read-as : (lines : List (List ℤ)) → Passed InText lines → ReadAs lines
-read-as lines p =
-    let b = text-book lines p in
-    subst (λ (ls : List (List ℤ)). Passed InText ls → ReadAs ls) (sym (b .is))
-    (λ q. record { passed = read-lines (b .d) (b .eta) (b .u) (b .rest) q; book-is = read-book (b .d) (b .eta) (b .u) (b .rest) }) p
+read-as = text-ind ReadAs (λ d eta u rest p. record { passed = read-lines d eta u rest p; book-is = read-book d eta u rest })
 
 -- the loaded book has two numbers more
 pub read-long : (lines : List (List ℤ)) → Passed InText lines → length (loadedBook lines) ≡ 2 + length (concat lines)
 unfolding loadedBook
-read-long lines p = let b = text-book lines p in rw (b .is) (omega arith)
+read-long = text-ind (λ lines. length (loadedBook lines) ≡ 2 + length (concat lines)) (λ d eta u rest p. omega arith)
 
 pub read-loaded : (lines : List (List ℤ)) → Passed InText lines → loadedLines (loadedBook lines) ≡ withCounts lines
 unfolding loadedBook
