@@ -1,0 +1,2 @@
+// Adding an entry to a loaded book, and removing one.
+pub mod moves;
