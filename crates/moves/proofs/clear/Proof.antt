@@ -7,10 +7,10 @@ use borrow.Author.Needs.{needs}
 use lib.IntN.{pos}
 use lib.ListN.{length, drop, replicate, length-set}
 use Rattle.laws.proofs.Fill.{fill-more, fill-done}
-use Rattle.revising.proofs.moves.clear.Statement.{statement}
-use Rattle.revising.proofs.moves.clear.Tie as tie
-use Rattle.revising.proofs.moves.clear.Reads as reads
-use Rattle.revising.proofs.moves.clear.Lts as lts
+use Rattle.moves.proofs.clear.Statement.{statement}
+use Rattle.moves.proofs.clear.Tie as tie
+use Rattle.moves.proofs.clear.Reads as reads
+use Rattle.moves.proofs.clear.Lts as lts
 
 abbrev Inv-loop : tie.InvT-loop
 Inv-loop list₀ i₀ list i = (i ≤ length list₀) × ((length list ≡ length list₀) × (list ≡ replicate i (pos 0) ++ drop i list₀))

@@ -1,12 +1,12 @@
 -- What is left moves down, and the end is cleared.
-use Rattle.revising.proofs.Moving.{taken-out}
+use Rattle.moves.proofs.Moving.{taken-out}
 use borrow.Author.Needs.{needs}
-use Rattle.revising.proofs.moves.take_out.Statement.{statement}
-use Rattle.revising.proofs.moves.take_out.Tie as tie
-use Rattle.revising.proofs.moves.take_out.Reads as reads
-use Rattle.revising.proofs.moves.take_out.Lts as lts
-use Rattle.revising.proofs.moves.clear.Reads as clear-reads
-use Rattle.revising.proofs.moves.move_down.Reads as move-down-reads
+use Rattle.moves.proofs.take_out.Statement.{statement}
+use Rattle.moves.proofs.take_out.Tie as tie
+use Rattle.moves.proofs.take_out.Reads as reads
+use Rattle.moves.proofs.take_out.Lts as lts
+use Rattle.moves.proofs.clear.Reads as clear-reads
+use Rattle.moves.proofs.move_down.Reads as move-down-reads
 
 move-down-requires : tie.Need-move-down-requires
 move-down-requires c κs = search needs

@@ -6,13 +6,13 @@ use borrow.Author.Needs.{needs}
 use mir.Val.{toZ, ofZ}
 use mir.Syntax.{w32}
 use lib.ListN.{getD, length-drop}
-use Rattle.revising.proofs.Moving.{Moved, move-more, moved-all, not-moved}
+use Rattle.moves.proofs.Moving.{Moved, move-more, moved-all, not-moved}
 use lib.IntN.{pos}
 use lib.ListN.{length, drop, length-set}
-use Rattle.revising.proofs.moves.move_down.Statement.{statement}
-use Rattle.revising.proofs.moves.move_down.Tie as tie
-use Rattle.revising.proofs.moves.move_down.Reads as reads
-use Rattle.revising.proofs.moves.move_down.Lts as lts
+use Rattle.moves.proofs.move_down.Statement.{statement}
+use Rattle.moves.proofs.move_down.Tie as tie
+use Rattle.moves.proofs.move_down.Reads as reads
+use Rattle.moves.proofs.move_down.Lts as lts
 
 abbrev Inv-loop : tie.InvT-loop
 Inv-loop list₀ size i₀ list i = (i + size ≤ length list₀) × ((length list ≡ length list₀) × Moved (drop size list₀) list₀ i list)

@@ -3,12 +3,12 @@ use mathlib.Core.Path.{_≡_, refl}
 use Prim.Native.Nat.{_-_, _≤_}
 use native.Mathlib.Omega.{arith}
 use borrow.Author.Needs.{needs}
-use Rattle.revising.proofs.Moving.{Moved, move-more, moved-all}
+use Rattle.moves.proofs.Moving.{Moved, move-more, moved-all}
 use lib.ListN.{length, length-set}
-use Rattle.revising.proofs.moves.put_front.Statement.{statement}
-use Rattle.revising.proofs.moves.put_front.Tie as tie
-use Rattle.revising.proofs.moves.put_front.Reads as reads
-use Rattle.revising.proofs.moves.put_front.Lts as lts
+use Rattle.moves.proofs.put_front.Statement.{statement}
+use Rattle.moves.proofs.put_front.Tie as tie
+use Rattle.moves.proofs.put_front.Reads as reads
+use Rattle.moves.proofs.put_front.Lts as lts
 
 abbrev Inv-loop : tie.InvT-loop
 Inv-loop list₀ numbers i₀ list i = (i ≤ length numbers) × ((length list ≡ length list₀) × Moved numbers list₀ i list)
