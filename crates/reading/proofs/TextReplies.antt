@@ -1,17 +1,18 @@
 -- From the answer of a load to what a text answers.
 use Prim.Native.Nat.{ℕ, _+_}
 use native.Mathlib.Omega.{arith}
-use mathlib.Core.Path.{_≡_, sym, ap, _∙_}
+use mathlib.Core.Path.{_≡_, refl, sym, ap, _∙_}
 use mathlib.Core.Bool.{true}
 use mathlib.Core.List.{List}
+use lib.IntN.{ℤ}
 use lib.ListN.{length, getD}
-use Rattle.meaning.specs.Book.{InText, Book, isBookText, textLines, loadedOf, linesRefusal}
+use Rattle.meaning.specs.Book.{InText, Book, isBookText, isCounted, textLines, loadedOf, linesRefusal}
 use Rattle.meaning.proofs.Ranges.{lines-passed}
 use Rattle.meaning.proofs.Loaded.{read-long}
 use Rattle.text.specs.Walk.{textNumbers}
 use Rattle.book.specs.Survey.{noTally, tallyFrom}
 use Rattle.book.proofs.Counts.{tally-is}
-use Rattle.loading.specs.Loaded.{Answered}
+use Rattle.loading.specs.Loaded.{CountedAs, Answered}
 use Rattle.loading.specs.declared.load.Loaded.{Loaded}
 use Rattle.loading.specs.declared.load.Loaded.the-variants.{Book as Passes, Refused}
 use Rattle.reading.specs.Text.{countedAs, CheckedAs}
@@ -20,6 +21,11 @@ use Rattle.reading.specs.Text.{countedAs, CheckedAs}
 pub loaded-long : (t : List ℕ) → linesRefusal InText (textLines t) ≡ 0 → length (loadedOf t) ≡ 2 + length (textNumbers t)
 unfolding loadedOf textNumbers
 loaded-long t e = read-long (textLines t) (lines-passed InText (textLines t) e)
+
+-- question 21 is not asked of a text
+pub text-counted : (lines : List (List ℤ)) → CountedAs InText lines true
+unfolding isCounted
+text-counted lines w b = refl
 
 pub answer-counted : (t : List ℕ) (count : ℕ) (tally : List ℕ) (book : Book) (index : List ℕ) (r : Loaded) → isBookText t ≡ true → count ≡ 2 + length (textNumbers t) → tally ≡ tallyFrom noTally (textLines t)
     → Answered (linesRefusal InText (textLines t)) book index r → CheckedAs t (countedAs r count tally)

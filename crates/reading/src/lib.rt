@@ -151,12 +151,15 @@ fn put_counts(book: &mut [i32], phrases: usize, triples: usize)
     requires { ⌜ (phrases ≤ gramsMost) × (triples ≤ gramsMost) ⌝ }
     ensures { λ _. ⌜ now (book .exit) ≡ withB phrases triples (now (book .entry)) ⌝ }
 {
-    book[0] = book[2];
-    book[1] = book[3];
-    book[2] = book[4];
-    book[3] = book[5];
-    book[4] = phrases as i32;
-    book[5] = triples as i32;
+    let record = [
+        book[2],
+        book[3],
+        book[4],
+        book[5],
+        phrases as i32,
+        triples as i32,
+    ];
+    moves::put_front(book, &record);
 }
 
 // Writes the loaded book of a text that 1 to 6 and 20 pass at the beginning of a list that has room for it.

@@ -116,7 +116,7 @@ add-count : tie.Need-add-count Inv-loop μ-loop
 add-count c =
     let k = c .before .before .before .before .before .before .before .before .before .before .before .before .before .before .before .read-row in
     let n = walk-next (c .before .before .before .before .before .before .before .before .before .before .before .before .before .before .before .before .before .before .loop .inv) (k .result) (k .ensures) (c .before .before .before .before .before .before .before .before .before .before .before .before .before .before .before .before .before .loop-test .taken) (good (c .before .before .before .before .before .before .before .before .before .before .before .before)) (whole (c .before .before .before .before .before .before .before .before)) in
-    omega (arith, n .short, n .within)
+    omega (arith, n .short, n .within, c .before .before .before .before .before .before .before .before .before .before .before .before .before .before .before .before .before .before .before .before .before .before .before .before .good)
 
 loop-less : tie.Need-loop-less Inv-loop μ-loop
 loop-less c =
