@@ -12,6 +12,14 @@ extern "C" {
     fn phrase_check_book(book: *const i32, book_len: usize) -> i32;
     fn phrase_target_start(book: *const i32, book_len: usize, entry: usize) -> i64;
     fn phrase_target_count(book: *const i32, book_len: usize, entry: usize) -> i64;
+    fn phrase_add_entry(
+        book: *mut i32,
+        book_len: usize,
+        used: usize,
+        line: *const i32,
+        line_len: usize,
+    ) -> i64;
+    fn phrase_remove_entry(book: *mut i32, book_len: usize, used: usize, entry: usize) -> i64;
     fn phrase_score(
         book: *const i32,
         book_len: usize,
@@ -69,6 +77,24 @@ pub fn target_part(book: &[i32], entry: usize) -> (i64, i64) {
             phrase_target_count(book.as_ptr(), book.len(), entry),
         )
     }
+}
+
+/// The numbers then in use, or minus the refusal. `used` says how many of the list's numbers are in use, and the line is a P line as loaded.
+pub fn add_entry(book: &mut [i32], used: usize, line: &[i32]) -> i64 {
+    unsafe {
+        phrase_add_entry(
+            book.as_mut_ptr(),
+            book.len(),
+            used,
+            line.as_ptr(),
+            line.len(),
+        )
+    }
+}
+
+/// The same of a removal.
+pub fn remove_entry(book: &mut [i32], used: usize, entry: usize) -> i64 {
+    unsafe { phrase_remove_entry(book.as_mut_ptr(), book.len(), used, entry) }
 }
 
 /// 0, or the refusal; the report gets five values: the score, and how many target words were supplied by triples, pairs, words and u.

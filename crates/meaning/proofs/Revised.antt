@@ -1,18 +1,19 @@
 -- Ticket 5: what an addition and a removal leave of a loaded book that 2 to 6 pass: its lines, its counts, its numbers, and that it passes again.
-use Prim.Native.Nat.{ℕ, zero, suc, _-_, _≤_}
+use Prim.Native.Nat.{ℕ, zero, suc, _+_, _-_, _≤_}
 use native.Mathlib.Nat.{not-suc-le-zero}
 use native.Mathlib.Omega.{arith}
 use mathlib.Core.Path.{_≡_, refl, sym, _∙_, ap, subst}
 use mathlib.Core.Bool.{Bool, true, false, not, _&&_, cond, false≢true}
 use mathlib.Core.List.{List, [], _∷_, _++_, map, map-append, append-nil}
-use borrow.Author.Tests.{eqb-false, leb-true, le-leb}
+use borrow.Author.Tests.{eqb-true, eqb-false, ne-eqb, leb-true, le-leb}
 use lib.Dec.{eqb, leb}
 use lib.IntN.{ℤ, pos}
-use lib.ListN.{length, take, drop, set, take-append-drop, length-drop}
+use lib.ListN.{length, take, drop, set, take-append-drop, length-append, length-drop}
+use Rattle.laws.specs.Bits.{one}
 use Rattle.laws.specs.Integers.{eqℤ}
-use Rattle.laws.specs.Lists.{all, any, keep, count, concat}
+use Rattle.laws.specs.Lists.{all, any, keep, count, withoutBy, concat}
 use Rattle.laws.proofs.Integers.{eqℤ-refl}
-use Rattle.laws.proofs.Lists.{eqList-is, all-++, keep-++, count-++, keep-length, concat-++, count-none}
+use Rattle.laws.proofs.Lists.{all-without, eqList-is, all-++, keep-++, count-++, keep-length, concat-++, count-cons, count-none}
 use Rattle.laws.proofs.Order.{yes-≡}
 use Rattle.laws.proofs.Tests.{by-test, both, both-of, between, if-ind}
 use Rattle.meaning.specs.Questions.{within}
@@ -35,6 +36,7 @@ cut-back-from (suc fuel) (z ∷ numbers) h = by (sizeOf InList (z ∷ numbers)) 
     by zero ih = append-nil (z ∷ numbers)
     by (suc size) ih = rw (ih size) (ap (λ (l : List ℤ). z ∷ l) (take-append-drop size numbers))
 
+-- of the lines of any list, whole or not
 pub cut-back : (loaded : List ℤ) → concat (loadedLines loaded) ≡ loaded
 unfolding loadedLines
 cut-back loaded = cut-back-from (length loaded) loaded (omega arith)
@@ -45,6 +47,7 @@ cut-back loaded = cut-back-from (length loaded) loaded (omega arith)
 abbrev pub bRecord : ℤ → ℤ → ℤ → List (List ℤ) → List ℤ
 bRecord d eta u rest = pos 1 ∷ d ∷ eta ∷ u ∷ pos (count isP rest) ∷ pos (count isT rest) ∷ []
 
+-- the first line is such a record
 record FirstLine (first : List ℤ) (rest : List (List ℤ)) : Type 0 where
   pub d : ℤ
   pub eta : ℤ
@@ -93,7 +96,8 @@ stored-phrases = passed-ind (λ lines. (numberAt (concat lines) 4 ≡ pos (count
 abbrev pub NotP : (List ℤ → Bool) → Type 0
 NotP test = (line : List ℤ) → isP line ≡ true → test line ≡ false
 
-not-p : (k : ℕ) → eqb 2 k ≡ false → NotP (isKind k)
+-- other kinds, and n-grams
+pub not-p : (k : ℕ) → eqb 2 k ≡ false → NotP (isKind k)
 not-p k e line p = let z : numberAt line 0 ≡ pos 2 = kind-is line 2 p in rw z e
 
 gram-not-p : NotP isGram
@@ -105,10 +109,11 @@ pub record SameOthers (lines others : List (List ℤ)) : Type 0 where
   pub kept : (test : List ℤ → Bool) → NotP test → keep test others ≡ keep test lines
 
 module _ {lines others : List (List ℤ)} (same : SameOthers lines others) where
-  same-count : (test : List ℤ → Bool) → NotP test → count test others ≡ count test lines
+  -- as many of each
+  pub same-count : (test : List ℤ → Bool) → NotP test → count test others ≡ count test lines
   same-count test n = sym (keep-length test others) ∙ ap length (same .kept test n) ∙ keep-length test lines
 
-  same-none : (test : List ℤ → Bool) → NotP test → not (any test others) ≡ not (any test lines)
+  pub same-none : (test : List ℤ → Bool) → NotP test → not (any test others) ≡ not (any test lines)
   same-none test n = sym (count-none test others) ∙ ap (λ (k : ℕ). eqb k 0) (same-count test n) ∙ count-none test lines
 
 -- where the others pass too, and are not too many, the book with the counts of its lines passes
@@ -139,6 +144,7 @@ module _ (d eta u : ℤ) {rest others : List (List ℤ)} (same : SameOthers rest
 
 -- ════ adding
 
+-- the other lines stay
 pub entry-others : (lines : List (List ℤ)) (line : List ℤ) → isP line ≡ true → SameOthers lines (withEntry lines line)
 entry-others lines line p = record { kept = λ test n. let f : test line ≡ false = n line p in keep-++ test lines (line ∷ []) ∙ rw f (append-nil (keep test lines)) }
 
@@ -174,6 +180,7 @@ added-passed lines line p e r = passed-ind (λ lines. isNotTooLong (withEntry li
 
 -- ════ removing
 
+-- the other lines stay
 pub without-others : (k : ℕ) (lines : List (List ℤ)) → SameOthers lines (withoutEntry k lines)
 unfolding withoutEntry
 without-others k lines = record { kept = λ test n. of test n k lines }
@@ -198,13 +205,57 @@ count-without k lines e = let h = between 1 (count isP lines) k e in let z = of 
         by-test (eqb k 1) (λ e. rw (t, e)) (λ e. let n : k ≡ 1 → ⊥ = eqb-false k 1 e in rw (t, e) (rw t (ap suc (of (k - 1) lines (omega arith) (omega arith))))))
         (λ t. rw t (rw t (of k lines l (rw t at m))))
 
--- what all lines pass the lines that are left pass
-all-without : (test : List ℤ → Bool) (k : ℕ) (lines : List (List ℤ)) → all test lines ≡ true → all test (withoutEntry k lines) ≡ true
+-- no more numbers
+pub fewer-numbers : (k : ℕ) (lines : List (List ℤ)) → length (concat (withoutEntry k lines)) ≤ length (concat lines)
 unfolding withoutEntry
-all-without test k [] a = refl
-all-without test k (line ∷ lines) a =
-    let h = both (test line) (all test lines) a in
-    if-ind (isP line && eqb k 1) (λ (l : List (List ℤ)). all test l ≡ true) (λ t. h .1) (λ f. both-of (h .0) (all-without test (cond (isP line) (k - 1) k) lines (h .1)))
+fewer-numbers k [] = omega arith
+fewer-numbers k (line ∷ lines) =
+    let all = length-append line (concat lines) in
+    if-ind (isP line && eqb k 1) (λ (l : List (List ℤ)). length (concat l) ≤ length (line ++ concat lines)) (λ t. omega arith)
+    (λ f. let left = withoutEntry (cond (isP line) (k - 1) k) lines in omega (arith, length-append line (concat left), fewer-numbers (cond (isP line) (k - 1) k) lines))
+
+-- the entry stands between the lines before it and those behind it
+pub record EntryAt (k : ℕ) (lines : List (List ℤ)) : Type 0 where
+  pub before : List (List ℤ)
+  pub line : List ℤ
+  pub after : List (List ℤ)
+  pub lines-are : lines ≡ before ++ (line ∷ after)
+  pub is-p : isP line ≡ true
+  pub number : k ≡ suc (count isP before)
+
+-- where there is a k-th
+pub entry-at : (k : ℕ) (lines : List (List ℤ)) → within 1 (count isP lines) k ≡ true → EntryAt k lines
+entry-at k lines e = let h = between 1 (count isP lines) k e in of k lines (h .0) (h .1)
+  where
+    below : (k : ℕ) (first : List ℤ) (rest : List (List ℤ)) (j : ℕ) → EntryAt j rest → k ≡ one (isP first) + j → EntryAt k (first ∷ rest)
+    below k first rest j r e = record {
+      before = first ∷ r .before;
+      line = r .line;
+      after = r .after;
+      lines-are = ap (λ (ls : List (List ℤ)). first ∷ ls) (r .lines-are);
+      is-p = r .is-p;
+      number = let n = r .number in omega (arith, count-cons isP first (r .before));
+    }
+
+    of : (k : ℕ) (lines : List (List ℤ)) → 1 ≤ k → k ≤ count isP lines → EntryAt k lines
+    of k [] l m = absurd (omega arith)
+    of k (first ∷ rest) l m =
+        let n = count-cons isP first rest in
+        by-test (isP first)
+        (λ t. let o : one (isP first) ≡ 1 = rw t in
+        by-test (eqb k 1) (λ e. record { before = []; line = first; after = rest; lines-are = refl; is-p = t; number = eqb-true k 1 e })
+        (λ e. let d : k ≡ 1 → ⊥ = eqb-false k 1 e in below k first rest (k - 1) (of (k - 1) rest (omega arith) (omega arith)) (omega arith)))
+        (λ t. let o : one (isP first) ≡ 0 = rw t in below k first rest k (of k rest l (omega arith)) (omega arith))
+
+-- and without it these are left
+pub without-at : (before : List (List ℤ)) (line : List ℤ) (after : List (List ℤ)) → isP line ≡ true → withoutEntry (suc (count isP before)) (before ++ (line ∷ after)) ≡ before ++ after
+unfolding withoutEntry
+without-at [] line after p = rw p
+without-at (first ∷ rest) line after p =
+    by-test (isP first)
+    (λ t. let z : suc (suc (count isP rest)) - 1 ≡ suc (count isP rest) = omega arith in
+    rw (t, ne-eqb (suc (suc (count isP rest))) 1 (omega arith), z) (ap (λ (l : List (List ℤ)). first ∷ l) (without-at rest line after p)))
+    (λ t. rw t (ap (λ (l : List (List ℤ)). first ∷ l) (without-at rest line after p)))
 
 -- the numbers of the shorter book: the new count
 pub removed-numbers : (k : ℕ) (lines : List (List ℤ)) → Passed InList lines → within 1 (count isP lines) k ≡ true → loadedBook (withoutEntry k lines) ≡ set (concat (withoutEntry k lines)) 4 (pos (count isP lines - 1))
@@ -225,8 +276,8 @@ removed-passed k = passed-ind (λ lines. within 1 (count isP lines) k ≡ true �
         let same = without-others k rest in
         let few = both (leb (count isP rest) phrasesMost) (areFew rest 3 (drop 2 kinds)) (q .short) in
         let fewer : count isP (withoutEntry k rest) ≤ phrasesMost = omega (arith, count-without k rest e, leb-true (count isP rest) phrasesMost (few .0)) in
-        other-passed d eta u same q (all-without (isWhole InList) k rest (both (isWhole InList (bRecord d eta u rest)) (all (isWhole InList) rest) (q .whole) .1))
-        (all-without isInRange k rest (both (isInRange (bRecord d eta u rest)) (all isInRange rest) (q .ranged) .1))
+        other-passed d eta u same q (all-without (isWhole InList) isP k rest (both (isWhole InList (bRecord d eta u rest)) (all (isWhole InList) rest) (q .whole) .1))
+        (all-without isInRange isP k rest (both (isInRange (bRecord d eta u rest)) (all isInRange rest) (q .ranged) .1))
         (both-of {a = leb (count isP (withoutEntry k rest)) phrasesMost} (le-leb (count isP (withoutEntry k rest)) phrasesMost fewer) (rw (same-count same isT (not-p 3 refl), same-count same isU (not-p 4 refl), same-count same isD (not-p 5 refl)) (few .1)))
 
 -- ════ the books that they state
@@ -245,8 +296,7 @@ added-book lines line p e =
 
 -- a list without its k-th element, counted from 1
 abbrev pub without : {A : Type 0} → ℕ → List A → List A
-without k [] = []
-without k (x ∷ xs) = cond (eqb k 1) xs (x ∷ without (k - 1) xs)
+without k xs = withoutBy (λ x. true) k xs
 
 entries-without : (k : ℕ) (lines : List (List ℤ)) → map entryOf (keep isP (withoutEntry k lines)) ≡ without k (map entryOf (keep isP lines))
 unfolding withoutEntry

@@ -1,12 +1,12 @@
 -- Ticket 5: an entry is added to a loaded book, or removed from one. "The caller names the numbers in use", which are the book; the places behind
 -- them are the unused tail of the lent list.
 use Prim.Native.Nat.{ℕ, _-_}
-use mathlib.Core.Bool.{_&&_, cond}
+use mathlib.Core.Bool.{_&&_}
 use mathlib.Core.List.{List, [], _∷_, _++_}
-use lib.Dec.{eqb, leb}
+use lib.Dec.{leb}
 use lib.IntN.{ℤ, pos}
 use lib.ListN.{length, take, replicate}
-use Rattle.laws.specs.Lists.{count}
+use Rattle.laws.specs.Lists.{count, withoutBy}
 use Rattle.meaning.specs.Questions.{_unless_, _orelse_, within}
 use Rattle.meaning.specs.Book.{InList, isP, isWhole, isInRange, isNotTooLong, loadedLines, bookRefusal, loadedBook}
 use Rattle.meaning.specs.Reply.{Reply, reply, writtenIf}
@@ -52,8 +52,7 @@ addEntryList list used line = writtenIf (addRefusal list used line) (added list 
 
 -- "or an entry removed; later entries then move down by one": the lines without the k-th P line
 unfoldable pub withoutEntry : ℕ → List (List ℤ) → List (List ℤ)
-withoutEntry k [] = []
-withoutEntry k (line ∷ lines) = cond (isP line && eqb k 1) lines (line ∷ withoutEntry (cond (isP line) (k - 1) k) lines)
+withoutEntry k lines = withoutBy isP k lines
 
 -- the numbers in use without it
 unfoldable pub removed : List ℤ → ℕ → ℕ → List ℤ

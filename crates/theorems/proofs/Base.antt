@@ -14,12 +14,12 @@ use lib.IntN.{ℤ, pos, negsuc, _+ℤ_, _*ℤ_, +ℤ-idl}
 use lib.Signed.{leZ}
 use lib.ListN.{length, getD, take, drop}
 use Rattle.laws.specs.Integers.{eqℤ}
-use Rattle.laws.specs.Lists.{all, any, keep, count, isEmpty, eqList, noneTwice, concat, sumℤ}
+use Rattle.laws.specs.Lists.{all, any, keep, count, isEmpty, eqList, noneTwice, sumℤ}
 use Rattle.laws.proofs.Tests.{by-test, both, neither, clash}
 use Rattle.laws.proofs.Order.{yes-≡}
 use Rattle.search_theory.specs.Search.{Problem, setOf, run, best}
 use Rattle.meaning.specs.Questions.{_unless_, _orelse_}
-use Rattle.meaning.specs.Book.{Form, InText, InList, numberAt, naturalAt, wordsAt, Kind, kindB, kindP, kindT, byKindFrom, kindFrom, kindOfByte, kindOfLetter, isTextLine, isBookText, lineNumbers, textLines, loadedOf, readRefusal, isB, isP, isT, isU, isD, sizeOf, isWhole, cutLines, loadedLines, isOneBFirst, isInRange, isNotTooLong, orderOf, gramNumbers, isNoTripleTwice, isNoShorterTwice, linesRefusal, bookRefusal, Gram, Book, gramOf, isGram, bookOfLines, bookOf}
+use Rattle.meaning.specs.Book.{Form, InText, InList, numberAt, naturalAt, wordsAt, Kind, kindB, kindP, kindT, byKindFrom, kindFrom, kindOfByte, kindOfLetter, isTextLine, isBookText, lineNumbers, textLines, loadedBook, loadedOf, readRefusal, isB, isP, isT, isU, isD, sizeOf, isWhole, cutLines, loadedLines, isOneBFirst, isInRange, isNotTooLong, isCounted, orderOf, gramNumbers, isNoTripleTwice, isNoShorterTwice, linesRefusal, bookRefusal, Gram, Book, gramOf, isGram, bookOfLines, bookOf}
 use Rattle.meaning.specs.Numerals.{linesOf, isEnded, isNumber, valueOf}
 use Rattle.meaning.specs.Direction.{wordCount, directionRefusal}
 use Rattle.meaning.specs.Derivation.{listed, scoreOr, wordScore, pairScore, backedOff, tripleScore, wordsScore, entryAt, jump, jumps, targetWords, scoreOf, suppliedOf}
@@ -55,13 +55,14 @@ documentNotTooLong lines = leb (count isP lines) 4_096 && leb (count isT lines) 
 abbrev pub documentNoTripleTwice : List (List ℤ) → Bool
 documentNoTripleTwice lines = noneTwice (eqList eqℤ) (map (λ line. take 3 (drop 1 line)) (keep isT lines))
 
--- questions 2 to 6
+-- questions 2 to 6, and Ticket 5's question of a loaded book's counts, "21, after 5", which every text passes
 abbrev pub documentRefusal : Form → List (List ℤ) → ℕ
 documentRefusal form lines =
     2 unless all (documentWhole form) lines
     orelse 3 unless isOneBFirst lines
     orelse 4 unless all documentInRange lines
     orelse 5 unless documentNotTooLong lines
+    orelse 21 unless isCounted form lines
     orelse 6 unless documentNoTripleTwice lines
 
 -- the lines of a loaded list
@@ -265,7 +266,7 @@ passing-last : (k : ℕ) → k orelse 0 ≡ k
 passing-last zero = refl
 passing-last (suc k) = refl
 
--- questions 2 to 6 and 20 answer as document 01's 2 to 6
+-- questions 2 to 6, 21 and 20 answer as document 01's 2 to 6, with 21 after 5
 pub base-refusal : (form : Form) (lines : List (List ℤ)) → OfBase lines → linesRefusal form lines ≡ documentRefusal form lines
 unfolding linesRefusal
 base-refusal form lines b = let alls = alls-same form lines b in rw (alls .0, alls .1, few-same lines b, twice-same lines, no-twenty lines b, passing-last)
@@ -473,10 +474,10 @@ texts-same (line ∷ fields) b =
     let rest = texts-same fields (h .2) in
     (rw (first .0, rest .0), rw (first .1, rest .1))
 
--- reading a text without D and U lines: its refusal, and the numbers it is read into
+-- reading a text without D and U lines: its refusal, and the numbers it is read into, with Ticket 5's counts
 pub base-reading : (text : List ℕ) (places : ℕ) → OfBase (textLines text)
-    → (loadedOf text ≡ concat (documentTextLines text))
-    × (readRefusal text places ≡ (1 unless documentText text orelse documentRefusal InText (documentTextLines text) orelse 7 unless leb (length (concat (documentTextLines text))) places))
+    → (loadedOf text ≡ loadedBook (documentTextLines text))
+    × (readRefusal text places ≡ (1 unless documentText text orelse documentRefusal InText (documentTextLines text) orelse 7 unless leb (length (loadedBook (documentTextLines text))) places))
 unfolding readRefusal loadedOf isBookText textLines
 base-reading text places b =
     let same = texts-same (linesOf text) b in

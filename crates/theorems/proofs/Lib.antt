@@ -3,3 +3,8 @@ pub mod LineCount
 pub mod Supplying
 pub mod Otherwise
 pub mod Narrow
+pub mod Texts
+pub mod Printed
+pub mod Revising
+pub mod Edits
+pub mod EditRows

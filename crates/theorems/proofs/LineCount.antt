@@ -2,21 +2,26 @@
 use mathlib.Core.Path.{_≡_, refl}
 use mathlib.Core.Bool.{true}
 use mathlib.Core.List.{List, [], _∷_}
-use lib.ListN.{replicate}
+use lib.IntN.{ℤ}
+use lib.ListN.{take, replicate}
 use Rattle.laws.specs.Lists.{all}
 use Rattle.meaning.specs.Book.{InText, linesRefusal}
 use Rattle.meaning.proofs.Computing.{computing}
 use Rattle.meaning.proofs.Refusals.{Row, agrees, bLine, pLine, tLine, uLine, dLine}
 
+-- a B line as a text has it, without the counts
+abbrev pub textB : List ℤ
+textB = take 4 (bLine 0 0)
+
 -- equal lines are not asked about before
 unfoldable pub many : List Row
 many =
-    (linesRefusal InText (bLine ∷ replicate 4096 pLine), 0)
-    ∷ (linesRefusal InText (bLine ∷ replicate 4097 pLine), 5)
-    ∷ (linesRefusal InText (bLine ∷ replicate 8193 tLine), 5)
-    ∷ (linesRefusal InText (bLine ∷ replicate 8193 uLine), 5)
-    ∷ (linesRefusal InText (bLine ∷ replicate 8193 dLine), 5)
-    ∷ (linesRefusal InText (bLine ∷ replicate 8192 dLine), 20)
+    (linesRefusal InText (textB ∷ replicate 4096 pLine), 0)
+    ∷ (linesRefusal InText (textB ∷ replicate 4097 pLine), 5)
+    ∷ (linesRefusal InText (textB ∷ replicate 8193 tLine), 5)
+    ∷ (linesRefusal InText (textB ∷ replicate 8193 uLine), 5)
+    ∷ (linesRefusal InText (textB ∷ replicate 8193 dLine), 5)
+    ∷ (linesRefusal InText (textB ∷ replicate 8192 dLine), 20)
     ∷ []
 
 pub many-agree : all agrees many ≡ true

@@ -1,7 +1,8 @@
 //! Random trials of the decoder against the plain walks. Used by the tests and by
 //! `second campaign SEED COUNT`. It panics at the first disagreement.
 
-use crate::gen::{self, Rng, Shape};
+use crate::edits::EditCase;
+use crate::gen::{self, DecodeCase, Rng, Shape};
 use crate::{plain, *};
 use std::collections::BTreeMap;
 
@@ -80,6 +81,13 @@ pub fn run(seed: u64, count: usize) -> Tally {
         search_round(&mut rng, &shape, &mut tally);
         reading_round(&mut rng, &shape, &mut tally, round % 200 == 0);
         mixed_round(&mut rng, &shape, &mut tally);
+        if round % 4 == 0 {
+            rounds::editing_round(&mut rng, &shape, &mut tally);
+            rounds::edits_in_turn(&mut rng, &shape, &mut tally);
+        }
+        if round % 100 == 50 {
+            rounds::full_book_edits(&mut rng, &shape, &mut tally);
+        }
         if round % 40 == 0 {
             let shape = Shape::middle(&mut rng);
             middle_round(&mut rng, &shape, &mut tally);
@@ -296,12 +304,14 @@ fn search_round(rng: &mut Rng, shape: &Shape, tally: &mut Tally) {
     }
 }
 
-/// A text's reading against the plain walk's verdict: its refusal, and how many numbers it has.
-fn check_verdict<T>(text: &[u8], result: &Result<Vec<T>, u8>, (code, size): (u8, usize)) {
-    match result {
-        Ok(list) => assert_eq!((code, size), (0, list.len())),
-        Err(given) => assert_eq!(code, *given, "{}", String::from_utf8_lossy(text)),
-    }
+/// A text's reading against the plain walk's verdict: its refusal, or its numbers.
+fn check_verdict<T: PartialEq + std::fmt::Debug>(
+    text: &[u8],
+    result: &Result<Vec<T>, u8>,
+    (code, list): (u8, Vec<T>),
+) {
+    let plainly = if code == 0 { Ok(list) } else { Err(code) };
+    assert_eq!(*result, plainly, "{}", String::from_utf8_lossy(text));
 }
 
 /// Reading: good and damaged texts and lists, each with the number meant for it.
@@ -355,17 +365,20 @@ fn reading_round(rng: &mut Rng, shape: &Shape, tally: &mut Tally, large: bool) {
     }
 
     let good_direction = gen::direction(rng, shape);
-    for code in [1, 2, 3, 4, 5, 6, 20] {
+    for code in [1, 2, 3, 4, 5, 21, 6, 20] {
         if code == 5 && !large {
             continue;
         }
-        let text = gen::text_saying(rng, shape, code);
-        let short = rng.chance(1, 2);
-        let places = gen::places(rng, 4, short);
-        let result = read_book(&text, places);
-        tally.reply("read_book", &result);
-        assert_eq!(result, Err(code), "{}", String::from_utf8_lossy(&text));
-        assert_eq!(plain::book_text_verdict(&text, places).0, code);
+        // No text is refused by 21.
+        if code != 21 {
+            let text = gen::text_saying(rng, shape, code);
+            let short = rng.chance(1, 2);
+            let places = gen::places(rng, 4, short);
+            let result = read_book(&text, places);
+            tally.reply("read_book", &result);
+            assert_eq!(result, Err(code), "{}", String::from_utf8_lossy(&text));
+            assert_eq!(plain::book_text_verdict(&text, places).0, code);
+        }
         if code > 1 {
             let list = gen::book_saying(rng, shape, code);
             let result = check_book(&list);
@@ -509,8 +522,12 @@ fn reading_round(rng: &mut Rng, shape: &Shape, tally: &mut Tally, large: bool) {
 /// plain walks.
 fn mixed_round(rng: &mut Rng, shape: &Shape, tally: &mut Tally) {
     let case = gen::decode_case(rng, shape);
+    tally.reply("decode, anything", &decoded_plainly(&case));
+}
+
+/// What a decode answers, which the plain walks say too.
+fn decoded_plainly(case: &DecodeCase) -> Result<Answer, u8> {
     let result = case.answer();
-    tally.reply("decode, anything", &result);
     let n = case.direction.len();
     let refused = match plain::loaded_verdict(&case.book) {
         0 if n == 0 || n > 32 => 9,
@@ -520,10 +537,48 @@ fn mixed_round(rng: &mut Rng, shape: &Shape, tally: &mut Tally) {
         code => code,
     };
     if refused != 0 {
-        return assert_eq!(result, Err(refused), "{case:?}");
+        assert_eq!(result, Err(refused), "{case:?}");
+    } else {
+        let (width, store) = (case.width, case.store_len);
+        check_plainly(&case.book, &case.direction, width, store, &result);
     }
-    let (width, store) = (case.width, case.store_len);
-    check_plainly(&case.book, &case.direction, width, store, &result);
+    result
+}
+
+/// The inputs of a round of edits, each held to the plain walks.
+impl rounds::Calls for Tally {
+    fn read_book(&mut self, _: &mut Rng, text: &[u8], places: usize) {
+        let result = read_book(text, places);
+        check_verdict(text, &result, plain::book_text_verdict(text, places));
+        self.reply("read_book", &result);
+    }
+    fn read_direction(&mut self, _: &mut Rng, text: &[u8], places: usize) {
+        let result = read_direction(text, places);
+        check_verdict(text, &result, plain::direction_text_verdict(text, places));
+        self.reply("read_direction", &result);
+    }
+    fn check_book(&mut self, _: &mut Rng, book: &[i32]) {
+        let result = check_book(book).map(|_| ());
+        assert_eq!(result.err().unwrap_or(0), plain::loaded_verdict(book));
+        self.reply("check_book", &result);
+    }
+    fn score(&mut self, _: &mut Rng, book: &[i32], direction: &[u16], steps: &[Step]) {
+        let result = score(book, direction, steps);
+        cases::score_plainly(book, direction, steps, result);
+        self.reply("score", &result);
+    }
+    fn decode(&mut self, _: &mut Rng, case: &DecodeCase) {
+        self.reply("decode, edited", &decoded_plainly(case));
+    }
+    fn edit(&mut self, _: &mut Rng, case: &EditCase) {
+        self.reply(case.call(), &case.answer().0);
+    }
+    fn same_book(&mut self, _: &mut Rng, text: &[u8], case: &DecodeCase, _: &[Step]) {
+        let fresh = read_book(text, case.book.len());
+        let said = String::from_utf8_lossy(text);
+        assert_eq!(fresh.as_ref(), Ok(&case.book), "{said}");
+        self.meet("edited books that are their texts read afresh");
+    }
 }
 
 /// Longer directions: the number of states against the breadth-first walk; where they are not too

@@ -3,6 +3,7 @@
 //! up from z, and `/d` is the digit of that number at d = 1, 10, 100 .., as a byte. What the second decoder says to a line is what
 //! that program is to print.
 
+use crate::edits::{Edit, EditCase};
 use crate::gen::DecodeCase;
 use crate::ways::Ways;
 use crate::{plain, Answer, Scoring, Step, Supplied};
@@ -80,6 +81,13 @@ impl<'a> Case<'a> {
             steps_len: self.count(STEPS),
             words_len: self.count(WORDS),
             store_len: self.count(STORE),
+        }
+    }
+    fn edit(&mut self, edit: impl Fn(&mut Self) -> Edit) -> EditCase {
+        EditCase {
+            list: self.list(READ),
+            used: self.number(),
+            edit: edit(self),
         }
     }
 }
@@ -176,9 +184,19 @@ fn read_book(case: &mut Case) -> Said {
     let (places, fill) = (case.count(READ), case.number());
     let reply = crate::read_book(&text, places);
     let line = read("book", &reply, &expected, &garbage(fill, READ));
-    let said = said("read_book", &reply, line);
-    assert_eq!(plain::book_text_verdict(&text, places).0, said.code);
-    said
+    let (code, list) = plain::book_text_verdict(&text, places);
+    assert_eq!(reply, if code == 0 { Ok(list) } else { Err(code) });
+    said("read_book", &reply, line)
+}
+
+/// An edit: what is replied, and the list afterwards, with garbage behind it, held to what it was before.
+fn edited(asked: &EditCase, fill: u16) -> Said {
+    let (reply, after) = asked.answer();
+    let head = reply.map_or_else(|k| format!("R,{k}"), |count| format!("N,{count}"));
+    let garbage = garbage(fill, READ);
+    let whole = |list: &[i32]| over(list.iter().map(|&z| z as i64), &garbage);
+    let text = head + &lent("book", &whole(&after), &whole(&asked.list));
+    said(asked.call(), &reply, text)
 }
 
 fn read_direction(case: &mut Case) -> Said {
@@ -246,7 +264,7 @@ fn decoded(case: &DecodeCase, fill: u16, reply: &Result<Answer, u8>) -> Said {
 }
 
 /// A scoring against the plain walk, from question 16 on.
-fn score_plainly(book: &[i32], direction: &[u16], steps: &[Step], reply: Result<Scoring, u8>) {
+pub fn score_plainly(book: &[i32], direction: &[u16], steps: &[Step], reply: Result<Scoring, u8>) {
     if let (Ok(book), Ok(())) = (crate::check_book(book), crate::check_direction(direction)) {
         let plainly = match plain::proposal_verdict(&book, direction, steps) {
             0 => Ok(plain::scoring_of(&book, steps)),
@@ -311,6 +329,14 @@ fn answer(case: &mut Case) -> Said {
             crate::check_direction(&case.list::<u16>(DIRECTION)),
         ),
         8 => rendered(case),
+        9 => {
+            let asked = case.edit(|case| Edit::Add(case.list(READ)));
+            edited(&asked, case.number())
+        }
+        10 => {
+            let asked = case.edit(|case| Edit::Remove(case.number()));
+            edited(&asked, case.number())
+        }
         k => panic!("call {k}"),
     }
 }

@@ -235,19 +235,24 @@ fn more_phrases(rng: &mut Rng, shape: &Shape, body: &mut Lines) {
             let (one, other) = (rng.below(body.len()), rng.below(body.len()));
             body.push(put_together(&body[one], &body[other]));
         } else {
-            let a = rng.between(1, shape.max_source);
-            let b = shape.target_long(rng, shape.max_target);
-            let mut line = vec![2, a, b];
-            for _ in 0..a {
-                line.push(shape.source(rng));
-            }
-            for _ in 0..b {
-                line.push(shape.target(rng));
-            }
-            line.push(shape.score(rng));
-            body.push(line);
+            body.push(phrase(rng, shape));
         }
     }
+}
+
+/// A P line of its own.
+pub fn phrase(rng: &mut Rng, shape: &Shape) -> Vec<i64> {
+    let a = rng.between(1, shape.max_source);
+    let b = shape.target_long(rng, shape.max_target);
+    let mut line = vec![2, a, b];
+    for _ in 0..a {
+        line.push(shape.source(rng));
+    }
+    for _ in 0..b {
+        line.push(shape.target(rng));
+    }
+    line.push(shape.score(rng));
+    line
 }
 
 fn triple_lines(rng: &mut Rng, shape: &Shape, body: &mut Lines) {
@@ -321,7 +326,7 @@ pub fn lines_of(rng: &mut Rng, shape: &Shape, counts: [usize; 4]) -> Lines {
 }
 
 /// The k-th of up to 65,536 T, U or D lines, with words that no other of them has.
-fn own_words(rng: &mut Rng, shape: &Shape, kind: i64, k: i64) -> Vec<i64> {
+pub fn own_words(rng: &mut Rng, shape: &Shape, kind: i64, k: i64) -> Vec<i64> {
     let s = shape.score(rng);
     match kind {
         3 => vec![3, k / 256, k % 256, shape.target(rng), s],
@@ -330,9 +335,19 @@ fn own_words(rng: &mut Rng, shape: &Shape, kind: i64, k: i64) -> Vec<i64> {
     }
 }
 
+/// A line of a book as its record: a B line gains the counts of the book's P and T lines.
+fn record(lines: &Lines, line: &[i64]) -> Vec<i32> {
+    let count = |kind: i64| lines.iter().filter(|line| line[0] == kind).count() as i64;
+    let counts = match line[0] {
+        1 => vec![count(2), count(3)],
+        _ => Vec::new(),
+    };
+    line.iter().chain(&counts).map(|&x| x as i32).collect()
+}
+
 /// Lines as a loaded list.
 pub fn loaded(lines: &Lines) -> Vec<i32> {
-    lines.iter().flatten().map(|&x| x as i32).collect()
+    lines.iter().flat_map(|line| record(lines, line)).collect()
 }
 
 /// Lines as text.
@@ -387,7 +402,7 @@ fn damage_lines_3(rng: &mut Rng, lines: &mut Lines, in_text: bool) {
     }
 }
 
-fn damage_lines_4(rng: &mut Rng, lines: &mut Lines, in_text: bool) {
+pub fn damage_lines_4(rng: &mut Rng, lines: &mut Lines, in_text: bool) {
     let k = rng.below(lines.len());
     let line = &mut lines[k];
     let first = if line[0] == 2 { 3 } else { 1 };
@@ -465,7 +480,7 @@ pub fn damage_loaded_2(rng: &mut Rng, lines: &Lines) -> Vec<i32> {
     let mut at = 0;
     for line in lines {
         starts.push(at);
-        at += line.len();
+        at += record(lines, line).len();
     }
     let odd = [0, 6, -1, 66, 68, 80, 84, 85, i32::MAX, i32::MIN];
     let phrases: Vec<usize> = (0..lines.len())
@@ -573,7 +588,7 @@ pub fn damage_text_1(rng: &mut Rng, text: &mut Vec<u8>) {
 
 /// Now and then something that a question after `code` refuses too.
 fn damage_later(rng: &mut Rng, shape: &Shape, lines: &mut Lines, code: u8, in_text: bool) {
-    let order = [1, 2, 3, 4, 5, 6, 20];
+    let order = [1, 2, 3, 4, 5, 21, 6, 20];
     let after = order.iter().position(|&c| c == code).map_or(0, |k| k + 1);
     let later: Vec<u8> = (order[after..].iter().copied())
         .filter(|c| [3, 4, 6, 20].contains(c))
@@ -584,19 +599,46 @@ fn damage_later(rng: &mut Rng, shape: &Shape, lines: &mut Lines, code: u8, in_te
     }
 }
 
-/// A loaded book of which 2 to 6 and 20 say `code` (0: good).
+/// A loaded book of which 2 to 5, 21, 6 and 20 say `code` (0: good).
 pub fn book_saying(rng: &mut Rng, shape: &Shape, code: u8) -> Vec<i32> {
     let mut all = lines(rng, shape);
-    match code {
-        0 => loaded(&all),
-        2 => {
-            damage_later(rng, shape, &mut all, code, false);
-            damage_loaded_2(rng, &all)
-        }
+    if code != 0 {
+        damage_later(rng, shape, &mut all, code, false);
+    }
+    if ![0, 2, 21].contains(&code) {
+        damage_lines(rng, shape, &mut all, code, false);
+    }
+    let mut list = match code {
+        2 => damage_loaded_2(rng, &all),
+        _ => loaded(&all),
+    };
+    if code == 21 || ([2, 3, 4, 5].contains(&code) && rng.chance(1, 4)) {
+        wrong_counts(rng, &mut list);
+    }
+    list
+}
+
+/// A number that is not the count: near it, far from it, or what another kind of line is allowed.
+fn wrong_count(rng: &mut Rng, count: i32) -> i32 {
+    let near = [count - 1, count + 1, -count, 0, 4_096, 8_192];
+    let far = [-1, i32::MAX, i32::MIN, rng.draw() as i32];
+    let wrong = [&near[..], &far].concat();
+    let wrong: Vec<i32> = wrong.into_iter().filter(|&x| x != count).collect();
+    rng.pick(&wrong)
+}
+
+/// Changes one or both counts of a list that begins with a B record: by turns, or each anyhow.
+fn wrong_counts(rng: &mut Rng, list: &mut [i32]) {
+    let [1, _, _, _, phrases, triples, ..] = list else {
+        return;
+    };
+    match rng.below(4) {
+        0 if phrases != triples => std::mem::swap(phrases, triples),
+        1 => *phrases = wrong_count(rng, *phrases),
+        2 => *triples = wrong_count(rng, *triples),
         _ => {
-            damage_later(rng, shape, &mut all, code, false);
-            damage_lines(rng, shape, &mut all, code, false);
-            loaded(&all)
+            *phrases = wrong_count(rng, *phrases);
+            *triples = wrong_count(rng, *triples);
         }
     }
 }
@@ -854,11 +896,12 @@ impl DecodeCase {
     }
 }
 
-/// A call of decode, now and then with things that 2 to 6, 20 and 9 to 13 refuse (one or more).
+/// A call of decode, now and then with things that a loaded book's questions and 9 to 13 refuse (one
+/// or more).
 pub fn decode_case(rng: &mut Rng, shape: &Shape) -> DecodeCase {
     let mut book = match rng.below(30) {
         0 => {
-            let code = rng.pick(&[2, 3, 4, 6, 20]);
+            let code = rng.pick(&[2, 3, 4, 6, 20, 21]);
             book_saying(rng, shape, code)
         }
         1 => {

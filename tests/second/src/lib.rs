@@ -1,4 +1,4 @@
-//! A second decoder, written from the papers alone (01-scope.md, tickets 1 to 3 of
+//! A second decoder, written from the papers alone (01-scope.md, tickets 1 to 5 of
 //! 02-change-requests.md, and Collins' notes 000, 001, 002). Standard library only. Refusals are the
 //! question numbers of 01 and 02.
 
@@ -6,6 +6,7 @@ use std::collections::HashMap;
 
 pub mod campaign;
 pub mod cases;
+pub mod edits;
 pub mod gen;
 pub mod plain;
 pub mod random_cases;
@@ -65,6 +66,11 @@ impl Phrase {
     pub fn target(&self) -> &[u16] {
         &self.target[..self.target_len as usize]
     }
+    /// Where its line begins in the loaded book, and where the next one does.
+    fn part(&self) -> (usize, usize) {
+        let start = self.target_at - self.source().len() - 3;
+        (start, self.target_at + self.target().len() + 1)
+    }
 }
 
 /// One T line.
@@ -116,6 +122,11 @@ pub struct Book {
 }
 
 impl Book {
+    /// "The k-th P line is entry k."
+    fn entry(&self, k: usize) -> Option<&Phrase> {
+        self.phrases.get(k.checked_sub(1)?)
+    }
+
     fn triple_score(&self, v: u16, w: u16, y: u16) -> i64 {
         match self.triple_scores.get(&(v, w, y)) {
             Some(&s) => s as i64,
@@ -219,7 +230,7 @@ fn number(field: &[u8]) -> Option<i32> {
     Some(if minus { -value } else { value })
 }
 
-/// Questions 1 to 6, 20 and 7 of a book's text; the numbers loaded.
+/// Questions 1 to 6, 20 and 7 of a book's text; the numbers loaded, of which 21 need not be asked.
 pub fn read_book(text: &[u8], places: usize) -> Result<Vec<i32>, u8> {
     // 1, of the whole text.
     let Some((&b'\n', body)) = text.split_last() else {
@@ -237,11 +248,11 @@ pub fn read_book(text: &[u8], places: usize) -> Result<Vec<i32>, u8> {
         lines.push(numbers);
     }
     // 2, of every line.
-    if !lines.iter().all(|line| size(line) == Some(line.len())) {
+    if !lines.iter().all(|line| has_fields(line)) {
         return Err(2);
     }
     // 3 to 6 and 20 (2 holds by now).
-    let loaded = lines.concat();
+    let loaded = with_counts(lines);
     check_book(&loaded)?;
     if loaded.len() > places {
         return Err(7);
@@ -261,11 +272,29 @@ fn kind(letter: u8) -> Option<i32> {
     }
 }
 
-/// How many numbers the line that stands first in the list takes, its kind included; None for a
+/// Question 2 of a text's line: has it the numbers of a loaded one, save that a B line has no counts?
+fn has_fields(line: &[i32]) -> bool {
+    let counts = if line[0] == 1 { 2 } else { 0 };
+    size(line) == Some(line.len() + counts)
+}
+
+/// "The B record of a loaded book gains two numbers at its end, the P and then the T lines it holds":
+/// the list of a text's lines.
+fn with_counts(mut lines: Vec<Vec<i32>>) -> Vec<i32> {
+    let count = |kind: i32| lines.iter().filter(|line| line[0] == kind).count() as i32;
+    let counts = [count(2), count(3)];
+    for line in lines.iter_mut().filter(|line| line[0] == 1) {
+        line.extend(counts);
+    }
+    lines.concat()
+}
+
+/// How many numbers the line that stands first in a loaded list takes, its kind included; None for a
 /// kind that is unknown, and where a or b is missing or out of range.
 fn size(list: &[i32]) -> Option<usize> {
     match *list {
-        [1 | 4, ..] => Some(4),
+        [1, ..] => Some(6),
+        [4, ..] => Some(4),
         [3 | 5, ..] => Some(5),
         [2, a @ 1..=8, b @ 1..=8, ..] => Some((a + b + 4) as usize),
         _ => None,
@@ -284,13 +313,15 @@ fn loaded_lines(mut list: &[i32]) -> Option<Vec<&[i32]>> {
     Some(lines)
 }
 
-/// Question 4 of a line.
+/// Question 4 of a loaded line; it passes over a B record's counts.
 fn in_range(line: &[i32]) -> bool {
     let score = |x: &i32| (-1_000_000..=1_000_000).contains(x);
     let word = |x: &i32| (1..=65_535).contains(x);
     let word_or_start = |x: &i32| (0..=65_535).contains(x);
     match line {
-        [1, d, eta, u] => (0..=32).contains(d) && (-10_000..=10_000).contains(eta) && score(u),
+        [1, d, eta, u, _, _] => {
+            (0..=32).contains(d) && (-10_000..=10_000).contains(eta) && score(u)
+        }
         [2, _, _, words @ .., g] => words.iter().all(word) && score(g),
         [3, v, w, y, s] => word_or_start(v) && word_or_start(w) && word(y) && score(s),
         [4, y, s, k] => word_or_start(y) && score(s) && score(k),
@@ -299,7 +330,7 @@ fn in_range(line: &[i32]) -> bool {
     }
 }
 
-/// Questions 2 to 6, and 20, of a loaded list.
+/// Questions 2 to 5, 21, 6 and 20 of a loaded list.
 pub fn check_book(book: &[i32]) -> Result<Book, u8> {
     let lines = loaded_lines(book).ok_or(2)?;
     // 3.
@@ -318,6 +349,10 @@ pub fn check_book(book: &[i32]) -> Result<Book, u8> {
     if counts[2] > MAX_PHRASES || counts[3..].iter().any(|&count| count > MAX_SCORES) {
         return Err(5);
     }
+    // 21: "when a stored count .. differs from the lines".
+    if lines[0][4..] != [counts[2] as i32, counts[3] as i32] {
+        return Err(21);
+    }
     let made = records(&lines, counts);
     // 6: of two lines with the same words one is not in the map.
     if made.triple_scores.len() < made.triples.len() {
@@ -330,7 +365,7 @@ pub fn check_book(book: &[i32]) -> Result<Book, u8> {
     Ok(made)
 }
 
-/// The records of lines of which 2 to 5 say yes; there are so many of each kind.
+/// The records of lines of which 2 to 5 and 21 say yes; there are so many of each kind.
 fn records(lines: &[&[i32]], [_, _, phrases, triples, words, pairs]: [usize; 6]) -> Book {
     let mut made = Book {
         phrases: Vec::with_capacity(phrases),
@@ -345,7 +380,7 @@ fn records(lines: &[&[i32]], [_, _, phrases, triples, words, pairs]: [usize; 6])
     let mut at = 0;
     for line in lines {
         match **line {
-            [1, d, eta, u] => (made.d, made.eta, made.u) = (d, eta, u),
+            [1, d, eta, u, _, _] => (made.d, made.eta, made.u) = (d, eta, u),
             [3, v, w, y, s] => made.add_triple(v as u16, w as u16, y as u16, s),
             [4, y, s, k] => made.add_word(y as u16, Listed { s, k }),
             [5, w, y, s, k] => made.add_pair(w as u16, y as u16, Listed { s, k }),
@@ -372,14 +407,59 @@ impl Book {
 }
 
 /// Start (from 0) and size of an entry's target words in the loaded list; the empty part at the
-/// list's end for a number that is no entry, or a list that 2 to 6 or 20 refuse.
+/// list's end for a number that is no entry, or a list that 2 to 6, 20 or 21 refuse.
 pub fn target_part(book: &[i32], entry: usize) -> (usize, usize) {
     if let Ok(checked) = check_book(book) {
-        if let Some(phrase) = entry.checked_sub(1).and_then(|k| checked.phrases.get(k)) {
+        if let Some(phrase) = checked.entry(entry) {
             return (phrase.target_at, phrase.target().len());
         }
     }
     (book.len(), 0)
+}
+
+// ---------------------------------------------------------------------------------------------
+// Adding and withdrawing phrases
+// ---------------------------------------------------------------------------------------------
+
+/// Where the B record has the number of P lines.
+const PHRASE_COUNT: usize = 4;
+
+/// "The caller names the numbers in use; more than the list holds is 7, before all else." Then the
+/// questions of a loaded book.
+fn book_in_use(list: &[i32], used: usize) -> Result<Book, u8> {
+    check_book(list.get(..used).ok_or(7)?)
+}
+
+/// Puts a P line after the last line of a loaded book, the first `used` numbers of the lent list: 7,
+/// the book's questions, and of the line 2, 4, 5 and 7. The numbers then in use.
+pub fn add_entry(list: &mut [i32], used: usize, line: &[i32]) -> Result<usize, u8> {
+    let book = book_in_use(list, used)?;
+    if line.first() != Some(&2) || size(line) != Some(line.len()) {
+        return Err(2);
+    }
+    if !in_range(line) {
+        return Err(4);
+    }
+    if book.phrases.len() == MAX_PHRASES {
+        return Err(5);
+    }
+    let place = list.get_mut(used..used + line.len()).ok_or(7)?;
+    place.copy_from_slice(line);
+    list[PHRASE_COUNT] += 1;
+    Ok(used + line.len())
+}
+
+/// Takes an entry out of a loaded book, the first `used` numbers of the lent list: 7, the book's
+/// questions, and 22. Later numbers move down, and the places that they leave are 0. The numbers then
+/// in use.
+pub fn remove_entry(list: &mut [i32], used: usize, entry: usize) -> Result<usize, u8> {
+    let book = book_in_use(list, used)?;
+    let (start, end) = book.entry(entry).ok_or(22)?.part();
+    list.copy_within(end..used, start);
+    let left = used - (end - start);
+    list[left..used].fill(0);
+    list[PHRASE_COUNT] -= 1;
+    Ok(left)
 }
 
 /// Questions 8, 9, 10, 7 of a direction's text; the words.
@@ -418,7 +498,7 @@ pub fn check_direction(direction: &[u16]) -> Result<(), u8> {
 // Scoring a proposed list
 // ---------------------------------------------------------------------------------------------
 
-/// Questions 2 to 6, 20, 9, 10, then 16 to 19; the score of the proposed steps, and the four counts.
+/// A loaded book's questions, 9, 10, then 16 to 19; the score of the proposed steps, and the four counts.
 pub fn score(book: &[i32], direction: &[u16], steps: &[Step]) -> Result<Scoring, u8> {
     let book = check_book(book)?;
     check_direction(direction)?;
@@ -538,8 +618,8 @@ fn comes_first<'a>(sets: &'a [Set], mut a: &'a Way, mut b: &'a Way) -> bool {
     a.step < b.step
 }
 
-/// Questions 2 to 6, 20, 9 to 15. The lists are lent by their lengths alone: places for steps, places
-/// for words, and 64-bit numbers in the store.
+/// A loaded book's questions, then 9 to 15. The lists are lent by their lengths alone: places for
+/// steps, places for words, and 64-bit numbers in the store.
 pub fn decode(
     book: &[i32],
     direction: &[u16],

@@ -446,7 +446,7 @@ fn lines_of_text(text: &[u8], with_letters: bool) -> Option<Vec<PlainLine>> {
     }
 }
 
-/// Has a line the fields of its kind?
+/// Has a text's line the fields of its kind?
 fn good_fields(line: &PlainLine) -> bool {
     let size = line.1.len() as i64;
     match line.0 {
@@ -463,11 +463,14 @@ fn good_fields(line: &PlainLine) -> bool {
     }
 }
 
-/// Is number k (from 0) of a line in its range? `left` are those that follow it.
+/// Is number k (from 0) of a line in its range? `left` are those that follow it. After u a loaded B
+/// record has two counts, "which 4 passes over".
 fn good_number(kind: u8, k: usize, left: usize, x: i64) -> bool {
     let (low, high) = match (kind, k, left) {
         (b'B', 0, _) => (0, 32),
         (b'B', 1, _) => (-10_000, 10_000),
+        (b'B', 2, _) => (-1_000_000, 1_000_000),
+        (b'B', _, _) => return true,
         (b'P', 0 | 1, _) => (1, 8),
         (_, _, 0) => (-1_000_000, 1_000_000),
         (b'U' | b'D', _, 1) => (-1_000_000, 1_000_000),
@@ -486,13 +489,18 @@ fn two_share(lines: &[PlainLine], kind: u8, numbers: usize) -> bool {
     rows.windows(2).any(|two| two[0] == two[1])
 }
 
-/// Questions 3 to 6 and 20 of lines whose fields are right; 0 when all say yes.
+/// How many lines of a kind there are.
+fn many(lines: &[PlainLine], kind: u8) -> i64 {
+    lines.iter().filter(|line| line.0 == kind).count() as i64
+}
+
+/// Questions 3 to 5, 21, 6 and 20 of lines whose fields are right, of a text or of a loaded list; 0
+/// when all say yes.
 fn later_verdict(lines: &[PlainLine]) -> u8 {
-    let kinds: Vec<u8> = lines.iter().map(|line| line.0).collect();
-    let many = |kind: u8| kinds.iter().filter(|&&k| k == kind).count();
-    if kinds.first() != Some(&b'B') || many(b'B') != 1 {
+    let first = lines.first().filter(|line| line.0 == b'B');
+    let (Some(first), 1) = (first, many(lines, b'B')) else {
         return 3;
-    }
+    };
     for (kind, numbers) in lines {
         for (k, &x) in numbers.iter().enumerate() {
             if !good_number(*kind, k, numbers.len() - k - 1, x) {
@@ -500,8 +508,14 @@ fn later_verdict(lines: &[PlainLine]) -> u8 {
             }
         }
     }
-    if many(b'P') > 4096 || many(b'T') > 8192 || many(b'U') > 8192 || many(b'D') > 8192 {
+    let most = [(b'P', 4096), (b'T', 8192), (b'U', 8192), (b'D', 8192)];
+    if most.iter().any(|&(kind, most)| many(lines, kind) > most) {
         return 5;
+    }
+    let counts = [many(lines, b'P'), many(lines, b'T')];
+    let stored = &first.1[3..];
+    if !stored.is_empty() && *stored != counts {
+        return 21;
     }
     if two_share(lines, b'T', 3) {
         return 6;
@@ -512,71 +526,138 @@ fn later_verdict(lines: &[PlainLine]) -> u8 {
     0
 }
 
-/// What 1 to 6, 20 and 7 say of a book's text: the number, or 0; and how many numbers are loaded.
-pub fn book_text_verdict(text: &[u8], places: usize) -> (u8, usize) {
+/// Lines as a loaded list, the B record with the counts of these lines behind d, eta and u.
+fn list_of(lines: &[PlainLine]) -> Vec<i32> {
+    let mut list = Vec::new();
+    for (letter, numbers) in lines {
+        match letter {
+            b'B' => {
+                list.push(1);
+                list.extend_from_slice(&numbers[..3]);
+                list.extend([many(lines, b'P'), many(lines, b'T')]);
+                continue;
+            }
+            b'P' => list.push(2),
+            b'T' => list.push(3),
+            b'U' => list.push(4),
+            _ => list.push(5),
+        }
+        list.extend_from_slice(numbers);
+    }
+    list.into_iter().map(|x| x as i32).collect()
+}
+
+/// What 1 to 6, 20 and 7 say of a book's text: the number, or 0; and the numbers loaded.
+pub fn book_text_verdict(text: &[u8], places: usize) -> (u8, Vec<i32>) {
+    let refused = |code: u8| (code, Vec::new());
     let Some(lines) = lines_of_text(text, true) else {
-        return (1, 0);
+        return refused(1);
     };
     if !lines.iter().all(good_fields) {
-        return (2, 0);
+        return refused(2);
     }
-    let needed = lines.iter().map(|line| line.1.len() + 1).sum();
-    match later_verdict(&lines) {
-        0 if needed > places => (7, 0),
-        0 => (0, needed),
-        code => (code, 0),
+    match (later_verdict(&lines), list_of(&lines)) {
+        (0, list) if list.len() > places => refused(7),
+        (0, list) => (0, list),
+        (code, _) => refused(code),
     }
 }
 
-/// What 2 to 6, and 20, say of a loaded list.
-pub fn loaded_verdict(list: &[i32]) -> u8 {
+/// The lines of a loaded list, or None where question 2 says no.
+fn lines_of_list(list: &[i32]) -> Option<Vec<PlainLine>> {
     let mut lines: Vec<PlainLine> = Vec::new();
     let mut at = 0;
     while at < list.len() {
         let get = |k: usize| list.get(at + k).map(|&x| x as i64);
         let (letter, size) = match list[at] {
-            1 => (b'B', 3),
+            1 => (b'B', 5),
             3 => (b'T', 4),
             4 => (b'U', 3),
             5 => (b'D', 4),
             2 => match (get(1), get(2)) {
                 (Some(a @ 1..=8), Some(b @ 1..=8)) => (b'P', (a + b + 3) as usize),
-                _ => return 2,
+                _ => return None,
             },
-            _ => return 2,
+            _ => return None,
         };
-        let mut numbers = Vec::new();
-        for k in 1..=size {
-            match get(k) {
-                Some(x) => numbers.push(x),
-                None => return 2,
-            }
-        }
-        lines.push((letter, numbers));
+        let numbers: Option<Vec<i64>> = (1..=size).map(get).collect();
+        lines.push((letter, numbers?));
         at += size + 1;
     }
-    later_verdict(&lines)
+    Some(lines)
 }
 
-/// What 8, 9, 10, 7 say of a direction's text; and how many words are filled in.
-pub fn direction_text_verdict(text: &[u8], places: usize) -> (u8, usize) {
+/// What 2 to 5, 21, 6 and 20 say of a loaded list.
+pub fn loaded_verdict(list: &[i32]) -> u8 {
+    lines_of_list(list).map_or(2, |lines| later_verdict(&lines))
+}
+
+/// What 8, 9, 10, 7 say of a direction's text; and the words filled in.
+pub fn direction_text_verdict(text: &[u8], places: usize) -> (u8, Vec<u16>) {
+    let refused = |code: u8| (code, Vec::new());
     let Some(lines) = lines_of_text(text, false) else {
-        return (8, 0);
+        return refused(8);
     };
     if lines.len() != 1 {
-        return (8, 0);
+        return refused(8);
     }
     let words = &lines[0].1;
     if words.is_empty() || words.len() > 32 {
-        return (9, 0);
+        return refused(9);
     }
     if words.iter().any(|w| !(1..=65_535).contains(w)) {
-        return (10, 0);
+        return refused(10);
     }
     if words.len() > places {
-        return (7, 0);
+        return refused(7);
     }
-    (0, words.len())
+    (0, words.iter().map(|&w| w as u16).collect())
+}
+
+// ------------------------------------------------------------------------ edits, line by line
+
+/// The numbers in use after an edit, and the lent list whole; or the refusal.
+pub type Edited = Result<(usize, Vec<i32>), u8>;
+
+/// The lines of a list's first `used` numbers, of which 7 and all questions of a loaded book say yes.
+fn lines_in_use(list: &[i32], used: usize) -> Result<Vec<PlainLine>, u8> {
+    if used > list.len() {
+        return Err(7);
+    }
+    match loaded_verdict(&list[..used]) {
+        0 => lines_of_list(&list[..used]).ok_or(2),
+        code => Err(code),
+    }
+}
+
+/// An addition: the book with the line, and what the list holds behind it. 4 and 5 are what the longer
+/// book is refused by.
+pub fn add_entry(list: &[i32], used: usize, line: &[i32]) -> Edited {
+    let mut lines = lines_in_use(list, used)?;
+    match lines_of_list(line) {
+        Some(added) if added.len() == 1 && added[0].0 == b'P' => lines.extend(added),
+        _ => return Err(2),
+    }
+    let book = list_of(&lines);
+    match loaded_verdict(&book) {
+        0 if book.len() > list.len() => Err(7),
+        0 => Ok((book.len(), [&book, &list[book.len()..]].concat())),
+        code => Err(code),
+    }
+}
+
+/// A removal: the book without the entry's line, 0 in each place that was in use, and the tail.
+pub fn remove_entry(list: &[i32], used: usize, entry: usize) -> Edited {
+    let mut lines = lines_in_use(list, used)?;
+    let mut entries = (0..lines.len()).filter(|&k| lines[k].0 == b'P');
+    let found = (1..=entry).zip(&mut entries).find(|pair| pair.0 == entry);
+    let Some((_, at)) = found else {
+        return Err(22);
+    };
+    lines.remove(at);
+    let book = list_of(&lines);
+    let freed = vec![0; used - book.len()];
+    Ok((book.len(), [&book, &freed, &list[used..]].concat()))
 }
 
 /// What 16 to 19 say of a proposed list, from the definitions; 0 when it is valid.

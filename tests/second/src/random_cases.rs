@@ -1,8 +1,9 @@
 //! Random inputs as cases for crates/try_cases, and what that program prints for them, held to the second decoder word for word.
 
 use crate::cases::{self, BOOK, DIRECTION, LINE, READ, RENDERED, STEPS, STORE, TEXT, WORDS};
+use crate::edits::{Edit, EditCase};
 use crate::gen::{self, DecodeCase, Rng, Shape};
-use crate::rounds::{self, Calls, Tally};
+use crate::rounds::{self, Calls, Reached, Tally};
 use crate::ways::Ways;
 use crate::Step;
 use std::fmt::Display;
@@ -96,6 +97,21 @@ impl Calls for Lines {
         let numbers = format!("6 {book} {direction} {} {lent} {}", case.width, fill(rng));
         self.add(&sizes, numbers);
     }
+    fn edit(&mut self, rng: &mut Rng, case: &EditCase) {
+        let (call, asked, size) = match &case.edit {
+            Edit::Add(line) => (9, list(line), line.len()),
+            Edit::Remove(entry) => (10, entry.to_string(), 0),
+        };
+        let lent = format!("{} {}", list(&case.list), case.used);
+        let sizes = [(case.list.len(), READ), (size, READ)];
+        self.add(&sizes, format!("{call} {lent} {asked} {}", fill(rng)));
+    }
+    /// A reading of the text, held to the edited book; what else is asked of that book has lines of its own.
+    fn same_book(&mut self, rng: &mut Rng, text: &[u8], case: &DecodeCase, _: &[Step]) {
+        let (size, book) = (case.book.len(), list(&case.book));
+        let numbers = format!("1 {} {book} {size} {}", list(text), fill(rng));
+        self.add(&[(text.len(), TEXT), (size, READ)], numbers);
+    }
 }
 
 /// Directions as numbers, and a rendering.
@@ -117,7 +133,7 @@ fn refused_books(rng: &mut Rng, shape: &Shape, code: u8, lines: &mut Lines) {
     lines.decode(rng, &case);
 }
 
-/// So many lines, or a few more: in most rounds the two calls with step records, in every sixteenth the others too.
+/// So many lines, or a few more: in most rounds the two calls with step records, in some of them the others too.
 pub fn made(seed: u64, inputs: usize) -> Lines {
     let (mut rng, mut lines) = (Rng::new(seed), Lines::default());
     let mut k = 0;
@@ -132,35 +148,38 @@ pub fn made(seed: u64, inputs: usize) -> Lines {
             for small in [Shape::small(&mut rng), Shape::small_ties(&mut rng)] {
                 other_calls(&mut rng, &small, &mut lines);
             }
-            let code = rng.pick(&[2, 3, 4, 6, 20]);
+            let code = rng.pick(&[2, 3, 4, 6, 20, 21]);
             refused_books(&mut rng, &shape, code, &mut lines);
+        }
+        if k % 16 == 8 {
+            rounds::editing_round(&mut rng, &shape, &mut lines);
+            rounds::edits_in_turn(&mut rng, &shape, &mut lines);
         }
         if k % 64 == 1 {
             refused_books(&mut rng, &shape, 5, &mut lines);
+        }
+        if k % 48 == 33 {
+            rounds::full_book_edits(&mut rng, &shape, &mut lines);
         }
         k += 1;
     }
     lines
 }
 
-/// The answers that random inputs reach in the two calls with step records; 0 stands for a result.
-const REACHED: [(&str, &[u8]); 2] = [
-    ("score", &[0, 2, 3, 4, 5, 6, 9, 10, 16, 17, 18, 19, 20]),
-    ("decode", &[0, 2, 3, 4, 5, 6, 9, 10, 11, 12, 13, 14, 15, 20]),
+/// The answers that random inputs reach in the two calls with step records.
+const WITH_STEPS: [Reached; 2] = [
+    ("score", &[0, 2, 3, 4, 5, 6, 9, 10, 16, 17, 18, 19, 20, 21]),
+    (
+        "decode",
+        &[0, 2, 3, 4, 5, 6, 9, 10, 11, 12, 13, 14, 15, 20, 21],
+    ),
 ];
 
-/// What was met too seldom, in a sentence: an answer of the calls with step records, fewer than `least` times, or a way in which a triple
-/// is scored, or a mixture of suppliers.
+/// What was met too seldom, in a sentence: an answer of the calls with step records or of the edits, fewer than `least` times, or a way in
+/// which a triple is scored, or a mixture of suppliers.
 fn seldom(tally: &Tally, ways: &Ways, least: u64) -> Result<(), String> {
-    for (call, codes) in REACHED {
-        for &code in codes {
-            let times = tally.times(call, code);
-            if times < least {
-                return Err(format!(
-                    "{call} gave {code} {times} times, fewer than {least}"
-                ));
-            }
-        }
+    for reached in [WITH_STEPS, rounds::EDITS] {
+        tally.seldom(&reached, least).map_or(Ok(()), Err)?;
     }
     match ways.seldom() {
         Some(said) if least > 0 => Err(said),

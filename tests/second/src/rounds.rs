@@ -1,5 +1,6 @@
 //! Random inputs to every call, round by round: good ones, and ones that each question refuses. Whoever is handed them asks the call.
 
+use crate::edits::{self, EditCase};
 use crate::gen::{self, DecodeCase, Rng, Shape};
 use crate::Step;
 use std::collections::BTreeMap;
@@ -11,6 +12,10 @@ pub trait Calls {
     fn check_book(&mut self, rng: &mut Rng, book: &[i32]);
     fn score(&mut self, rng: &mut Rng, book: &[i32], direction: &[u16], steps: &[Step]);
     fn decode(&mut self, rng: &mut Rng, case: &DecodeCase);
+    fn edit(&mut self, rng: &mut Rng, case: &EditCase);
+    /// "A decode after any edits equals a decode of the edited book read afresh": the case has the edited book, and the text is what that
+    /// is to be. A scoring of the steps and the target words are asked too.
+    fn same_book(&mut self, rng: &mut Rng, text: &[u8], case: &DecodeCase, steps: &[Step]);
 }
 
 /// How often each call gave each answer; 0 stands for a result.
@@ -47,10 +52,32 @@ impl Tally {
             .sum()
     }
     /// How often a call gave an answer.
-    pub fn times(&self, call: &'static str, code: u8) -> u64 {
+    fn times(&self, call: &'static str, code: u8) -> u64 {
         *self.0.get(&(call, code)).unwrap_or(&0)
     }
+    /// Of the answers that calls are to reach, one that was met fewer than `least` times, in a sentence.
+    pub fn seldom(&self, reached: &[Reached], least: u64) -> Option<String> {
+        for &(call, codes) in reached {
+            for &code in codes {
+                let times = self.times(call, code);
+                if times < least {
+                    let said = format!("{call} gave {code} {times} times, fewer than {least}");
+                    return Some(said);
+                }
+            }
+        }
+        None
+    }
 }
+
+/// A call, and the answers that random inputs reach in it; 0 stands for a result.
+pub type Reached = (&'static str, &'static [u8]);
+
+/// Those of the two edits.
+pub const EDITS: [Reached; 2] = [
+    ("add_entry", &[0, 2, 3, 4, 5, 6, 7, 20, 21]),
+    ("remove_entry", &[0, 2, 3, 4, 5, 6, 7, 20, 21, 22]),
+];
 
 /// The shape of round k's books and directions.
 pub fn shape(rng: &mut Rng, k: usize) -> Shape {
@@ -69,6 +96,13 @@ pub fn round(rng: &mut Rng, k: usize, calls: &mut dyn Calls) {
     }
     if k % 120 == 0 {
         full_book(rng, &shape, calls);
+    }
+    if k % 4 == 2 {
+        editing_round(rng, &shape, calls);
+        edits_in_turn(rng, &shape, calls);
+    }
+    if k % 40 == 20 {
+        full_book_edits(rng, &shape, calls);
     }
     scoring_round(rng, &shape, calls);
     decoding_round(rng, &shape, calls);
@@ -94,6 +128,9 @@ pub fn reading_round(rng: &mut Rng, shape: &Shape, large: bool, calls: &mut dyn 
         let places = gen::places(rng, needed, false);
         calls.read_book(rng, &text, places);
     }
+    // No text is refused by 21.
+    let list = gen::book_saying(rng, shape, 21);
+    calls.check_book(rng, &list);
     let mut list = gen::book_saying(rng, shape, 0);
     gen::mangle_list(rng, &mut list);
     calls.check_book(rng, &list);
@@ -132,7 +169,7 @@ pub fn scoring_round(rng: &mut Rng, shape: &Shape, calls: &mut dyn Calls) {
     }
     let steps = gen::any_proposal(rng, &book, &direction);
     calls.score(rng, &list, &direction, &steps);
-    let code = rng.pick(&[2, 3, 4, 6, 20]);
+    let code = rng.pick(&[2, 3, 4, 6, 20, 21]);
     let broken = gen::book_saying(rng, shape, code);
     calls.score(rng, &broken, &direction, &steps);
     let code = rng.pick(&[9, 10]);
@@ -150,4 +187,79 @@ pub fn decoding_round(rng: &mut Rng, shape: &Shape, calls: &mut dyn Calls) {
             calls.decode(rng, &case);
         }
     }
+}
+
+/// One addition and one removal of a book, each in a list of its own.
+fn both_edits(rng: &mut Rng, shape: &Shape, book: &[i32], calls: &mut dyn Calls) {
+    let entries = crate::check_book(book).map_or(2, |book| book.phrases.len());
+    for edit in [edits::addition(rng, shape), edits::removal(rng, entries)] {
+        let case = edits::in_list(rng, book, edit);
+        calls.edit(rng, &case);
+    }
+}
+
+/// Edits of good books, and of books that are broken.
+pub fn editing_round(rng: &mut Rng, shape: &Shape, calls: &mut dyn Calls) {
+    for code in [0, 0, 0, 2, 3, 4, 6, 20, 21] {
+        let book = gen::book_saying(rng, shape, code);
+        both_edits(rng, shape, &book, calls);
+    }
+}
+
+/// Edits of a book with as many P lines as are allowed, and of one with too many.
+pub fn full_book_edits(rng: &mut Rng, shape: &Shape, calls: &mut dyn Calls) {
+    // Short numbers: the lists are long enough.
+    let short = Shape {
+        source_base: 1,
+        target_base: 1,
+        ties: &[0],
+        ..shape.clone()
+    };
+    for counts in [[4_096, 0, 2, 2], [4_097, 2, 0, 0]] {
+        let book = gen::loaded(&gen::lines_of(rng, &short, counts));
+        both_edits(rng, shape, &book, calls);
+    }
+}
+
+/// A book edited up to 20 times in one list; now and then, and in the end, it is asked as its edited text is.
+pub fn edits_in_turn(rng: &mut Rng, shape: &Shape, calls: &mut dyn Calls) {
+    let mut lines = gen::lines(rng, shape);
+    let book = gen::loaded(&lines);
+    let places = rng.below(200);
+    let mut list = edits::lent(rng, &book, places);
+    let mut used = book.len();
+    for left in (0..=rng.below(20)).rev() {
+        let edit = edits::any_edit(rng, shape, &list[..used]);
+        let case = EditCase { list, used, edit };
+        calls.edit(rng, &case);
+        let reply;
+        (reply, list) = case.answer();
+        if let Ok(count) = reply {
+            case.edit.of_lines(&mut lines);
+            used = count;
+        }
+        if left == 0 || rng.chance(1, 4) {
+            as_read_afresh(rng, shape, &list[..used], &gen::text(&lines), calls);
+        }
+    }
+}
+
+/// A decode, a scoring and the target words of an edited book, and of its text.
+fn as_read_afresh(rng: &mut Rng, shape: &Shape, book: &[i32], text: &[u8], calls: &mut dyn Calls) {
+    let checked = crate::check_book(book).expect("a good book");
+    let direction = gen::direction_from(rng, shape, &checked);
+    let steps = gen::valid_proposal(rng, &checked, &direction)
+        .unwrap_or_else(|| gen::any_proposal(rng, &checked, &direction));
+    let case = DecodeCase {
+        book: book.to_vec(),
+        width: gen::width(rng, shape),
+        steps_len: direction.len(),
+        words_len: 8 * direction.len(),
+        store_len: 8 * 1_000,
+        direction,
+    };
+    calls.same_book(rng, text, &case, &steps);
+    calls.check_book(rng, &case.book);
+    calls.score(rng, &case.book, &case.direction, &steps);
+    calls.decode(rng, &case);
 }

@@ -85,7 +85,7 @@ fn a_triple_comes_first() {
 #[test]
 fn scores_at_the_ends() {
     for s in [1_000_000, -1_000_000] {
-        let mut list = vec![1, 32, s / 100, s];
+        let mut list = vec![1, 32, s / 100, s, 1, 0];
         list.extend([2, 1, 8, 5, 1, 2, 1, 2, 1, 2, 1, 2, s]);
         list.extend([4, 0, 0, s, 4, 1, s, s, 4, 2, s, s]);
         let direction = [5u16; 32];

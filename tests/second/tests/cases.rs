@@ -4,7 +4,7 @@ use second::cases::{decode_of, line_said};
 use second::random_cases::hold;
 
 /// Entries 1 and 2 are equal, entry 3 scores less, and entry 4 does not fit.
-const TIE: &str = "tie|6 28 1 0 0 0 2 1 1 11 101 -20 2 1 1 11 101 -20 2 1 1 11 101 -30 2 1 1 12 101 -20 1 11 -1 1 8 16 500";
+const TIE: &str = "tie|6 30 1 0 0 0 4 0 2 1 1 11 101 -20 2 1 1 11 101 -20 2 1 1 11 101 -30 2 1 1 12 101 -20 1 11 -1 1 8 16 500";
 
 const PRINTED: &str =
     "tie: A,-20 N,1 N,1 N,2 N,0 N,0 N,0 N,1 steps 1.1.1 ~1099 words 101 ~1999 store 0*16 ~32984";
@@ -48,7 +48,7 @@ fn any_other_line_is_refused() {
 #[test]
 fn a_step_may_be_as_before() {
     let line =
-        "g|6 23 1 0 0 0 2 1 1 13 101 0 2 1 1 14 101 0 2 2 1 11 12 101 -20 2 11 12 -1 2 16 16 1";
+        "g|6 25 1 0 0 0 3 0 2 1 1 13 101 0 2 1 1 14 101 0 2 2 1 11 12 101 -20 2 11 12 -1 2 16 16 1";
     let said = line_said(line).text;
     assert!(said.contains(" steps ~1100 words 101 ~1999 "), "{said}");
 }
@@ -64,8 +64,11 @@ fn a_group_stands_for_its_items() {
         said("digits|2 6 ( 1 123 /100 /10 /1 48 ) 50 10 32 100"),
         "digits: N,1 words 12302 ~1999"
     );
-    assert_eq!(said("list|3 14 1 0 0 0 ( 2 9 3 0 0 # 0 )"), "list: passed");
-    assert_eq!(said("list|3 14 1 0 0 0 ( 2 9 3 0 0 9 0 )"), "list: R,6");
+    assert_eq!(
+        said("list|3 16 1 0 0 0 0 2 ( 2 9 3 0 0 # 0 )"),
+        "list: passed"
+    );
+    assert_eq!(said("list|3 16 1 0 0 0 0 2 ( 2 9 3 0 0 9 0 )"), "list: R,6");
 }
 
 #[test]

@@ -58,13 +58,13 @@ fn loaded_example() {
     assert_eq!(
         list,
         [
-            1, 2, -10, -500, 2, 1, 1, 11, 101, -20, 2, 1, 1, 12, 102, -30, 2, 2, 2, 11, 12, 102,
-            101, -70, 3, 0, 0, 101, -40, 3, 0, 101, 102, -60, 3, 0, 0, 102, -15, 3, 0, 102, 101,
-            -25
+            1, 2, -10, -500, 3, 4, 2, 1, 1, 11, 101, -20, 2, 1, 1, 12, 102, -30, 2, 2, 2, 11, 12,
+            102, 101, -70, 3, 0, 0, 101, -40, 3, 0, 101, 102, -60, 3, 0, 0, 102, -15, 3, 0, 102,
+            101, -25
         ]
     );
-    assert_eq!(target_part(&list, 1), (8, 1));
-    assert_eq!(target_part(&list, 3), (21, 2));
+    assert_eq!(target_part(&list, 1), (10, 1));
+    assert_eq!(target_part(&list, 3), (23, 2));
     assert_eq!(target_part(&list, 0), (list.len(), 0));
     assert_eq!(target_part(&list, 4), (list.len(), 0));
     assert_eq!(target_part(&list[..list.len() - 1], 1), (list.len() - 1, 0));

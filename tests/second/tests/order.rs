@@ -8,7 +8,7 @@ const ROOM: usize = 8 * 10_000;
 
 /// A book of phrases alone, in which only g scores.
 fn book(d: i32, phrases: &[(&[i32], &[i32], i32)]) -> Vec<i32> {
-    let mut list = vec![1, d, 0, 0];
+    let mut list = vec![1, d, 0, 0, phrases.len() as i32, 0];
     for &(source, target, g) in phrases {
         list.extend([2, source.len() as i32, target.len() as i32]);
         list.extend(source.iter().chain(target));

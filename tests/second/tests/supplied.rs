@@ -129,17 +129,18 @@ fn the_start_symbols() {
 /// Words 1,2 and then 3,4: the history of 3 and of 4 goes back into the step before.
 #[test]
 fn across_two_steps() {
-    let entries = [1, 0, 0, 1, 2, 1, 2, 11, 1, 2, 0, 2, 1, 2, 12, 3, 4, 0];
+    let entries = "B,0,0,1\nP,1,2,11,1,2,0\nP,1,2,12,3,4,0\n";
     for (lines, expected) in [
-        (&[3, 1, 2, 3, 9][..], [1, 0, 0, 3]),
-        (&[3, 2, 3, 4, 9], [1, 0, 0, 3]),
-        (&[5, 2, 3, 9, 9], [0, 1, 0, 3]),
-        (&[3, 0, 0, 3, 9, 3, 0, 3, 4, 9], [0, 0, 0, 4]),
-        (&[5, 0, 3, 9, 9], [0, 0, 0, 4]),
-        (&[3, 0, 0, 1, 9, 5, 0, 3, 9, 9, 4, 3, 9, 9], [1, 0, 1, 2]),
+        ("T,1,2,3,9\n", [1, 0, 0, 3]),
+        ("T,2,3,4,9\n", [1, 0, 0, 3]),
+        ("D,2,3,9,9\n", [0, 1, 0, 3]),
+        ("T,0,0,3,9\nT,0,3,4,9\n", [0, 0, 0, 4]),
+        ("D,0,3,9,9\n", [0, 0, 0, 4]),
+        ("T,0,0,1,9\nD,0,3,9,9\nU,3,9,9\n", [1, 0, 1, 2]),
     ] {
-        let list = [&entries[..], lines].concat();
-        assert_eq!(decoded(&list, &[11, 12]), expected, "{lines:?}");
+        let text = [entries, lines].concat();
+        let list = read_book(text.as_bytes(), 1_000).expect("a good book");
+        assert_eq!(decoded(&list, &[11, 12]), expected, "{lines}");
     }
 }
 
@@ -152,11 +153,11 @@ fn words_256() {
     let shorter = [
         5, 8, 1, 16, -3, 5, 3, 4, 32, -5, 4, 2, 128, 7, 4, 5, 256, -9,
     ];
-    let list = [&[1, 0, 0, -500][..], &phrase, &triples, &shorter].concat();
+    let list = [&[1, 0, 0, -500, 1, 3][..], &phrase, &triples, &shorter].concat();
     let expected = [1 + 31 + 32, 31 + 32, 1 + 32, 3 * 32];
     assert_eq!(expected.iter().sum::<usize>(), 256);
     assert_eq!(decoded(&list, &[11; 32]), expected);
-    let list = [&[1, 0, 0, -500][..], &phrase].concat();
+    let list = [&[1, 0, 0, -500, 1, 0][..], &phrase].concat();
     assert_eq!(decoded(&list, &[11; 32]), [0, 0, 0, 256]);
 }
 
@@ -165,7 +166,7 @@ fn words_256() {
 fn of_equal_scores_the_winner_is_counted() {
     let tie = |y: i32| {
         let phrases = [2, 1, 1, 11, 101, 0, 2, 1, 1, 11, 102, 0];
-        [&[1, 0, 0, -4][..], &phrases, &[3, 0, 0, y, -4]].concat()
+        [&[1, 0, 0, -4, 2, 1][..], &phrases, &[3, 0, 0, y, -4]].concat()
     };
     assert_eq!(decoded(&tie(101), &[11]), [1, 0, 0, 0]);
     assert_eq!(decoded(&tie(102), &[11]), [0, 0, 0, 1]);

@@ -1,23 +1,62 @@
 //! Random inputs, good and broken, to every call of the library, each answer held to the second decoder's. Every lent list is
-//! full of garbage before a call and is compared whole afterwards. `through SEED INPUTS [LEAST]`: LEAST is how often each
-//! refusal must have been met at the end; where it is not 0, each way in which a triple is scored, and each of the four suppliers alone
-//! and all of them together in an answer, must have been met too (`second::ways`). It stops at the first difference.
+//! full of garbage before a call and is compared whole afterwards. Books are edited up to 20 times in one list, and what is then asked of
+//! them is held to their edited texts, read afresh by the library. `through SEED INPUTS [LEAST]`: LEAST is how often each refusal, and each
+//! answer of the two edits, must have been met at the end; where it is not 0, each way in which a triple is scored, and each of the four
+//! suppliers alone and all of them together in an answer, must have been met too (`second::ways`). It stops at the first difference.
 
 #[path = "../../../include/phrase.rs"]
 mod library;
 
-use second::gen::{self, Rng};
+use second::edits::{Edit, EditCase};
+use second::gen::{DecodeCase, Rng};
 use second::rounds::{self, Calls, Tally};
 use second::ways::Ways;
 use second::{Step, Supplied};
 
 /// The lists that a decode is lent to write to.
-#[derive(Clone)]
+#[derive(Clone, Debug, PartialEq)]
 struct Lent {
     steps: Vec<u16>,
     words: Vec<u16>,
     store: Vec<i64>,
     report: Vec<i64>,
+}
+
+/// Those of a case, full of garbage, with a step begun and places for more or fewer values than are reported.
+fn lent(rng: &mut Rng, case: &DecodeCase) -> Lent {
+    let (left_over, places) = (rng.below(3), rng.below(11));
+    Lent {
+        steps: garbage16(rng, 3 * case.steps_len + left_over),
+        words: garbage16(rng, case.words_len),
+        store: garbage64(rng, case.store_len),
+        report: garbage64(rng, places),
+    }
+}
+
+/// What the library replies to a decode with that book, and the lists afterwards.
+fn decoded(book: &[i32], case: &DecodeCase, before: &Lent) -> (i32, Lent) {
+    let mut after = before.clone();
+    let reply = library::decode(
+        book,
+        &case.direction,
+        case.width,
+        &mut after.steps,
+        &mut after.words,
+        &mut after.store,
+        &mut after.report,
+    );
+    (reply, after)
+}
+
+/// What it replies to a scoring, and the report afterwards.
+fn scored(book: &[i32], direction: &[u16], numbers: &[u16], before: &[i64]) -> (i32, Vec<i64>) {
+    let mut after = before.to_vec();
+    let reply = library::score(book, direction, numbers, &mut after);
+    (reply, after)
+}
+
+fn garbage32(rng: &mut Rng, n: usize) -> Vec<i32> {
+    (0..n).map(|_| rng.draw() as i32).collect()
 }
 
 fn garbage16(rng: &mut Rng, n: usize) -> Vec<u16> {
@@ -67,7 +106,7 @@ fn report(first: &[i64], supplied: Supplied, before: &[i64]) -> Vec<i64> {
 }
 
 /// The answer, its steps and its words stand in the lists, and what lies beyond them is as before.
-fn check_answer(case: &gen::DecodeCase, answer: &second::Answer, before: &Lent, after: &Lent) {
+fn check_answer(case: &DecodeCase, answer: &second::Answer, before: &Lent, after: &Lent) {
     let first = [
         answer.score,
         answer.steps.len() as i64,
@@ -87,7 +126,7 @@ struct Library(Tally, Ways);
 
 impl Calls for Library {
     fn read_book(&mut self, rng: &mut Rng, text: &[u8], places: usize) {
-        let before: Vec<i32> = (0..places).map(|_| rng.draw() as i32).collect();
+        let before = garbage32(rng, places);
         let mut book = before.clone();
         let reply = library::read_book(text, &mut book);
         let expected = second::read_book(text, places);
@@ -135,8 +174,7 @@ impl Calls for Library {
         numbers.extend(garbage16(rng, left_over));
         let places = rng.below(8);
         let before = garbage64(rng, places);
-        let mut given = before.clone();
-        let reply = library::score(book, direction, &numbers, &mut given);
+        let (reply, given) = scored(book, direction, &numbers, &before);
         let (expected, after) = match second::score(book, direction, steps) {
             Ok(scored) => {
                 self.1.add(Ways::of(book, steps, scored.supplied));
@@ -151,24 +189,9 @@ impl Calls for Library {
         assert_eq!(given, after, "score {book:?} {direction:?} {steps:?}");
         self.0.count("score", expected);
     }
-    fn decode(&mut self, rng: &mut Rng, case: &gen::DecodeCase) {
-        let (left_over, places) = (rng.below(3), rng.below(11));
-        let before = Lent {
-            steps: garbage16(rng, 3 * case.steps_len + left_over),
-            words: garbage16(rng, case.words_len),
-            store: garbage64(rng, case.store_len),
-            report: garbage64(rng, places),
-        };
-        let mut after = before.clone();
-        let reply = library::decode(
-            &case.book,
-            &case.direction,
-            case.width,
-            &mut after.steps,
-            &mut after.words,
-            &mut after.store,
-            &mut after.report,
-        );
+    fn decode(&mut self, rng: &mut Rng, case: &DecodeCase) {
+        let before = lent(rng, case);
+        let (reply, after) = decoded(&case.book, case, &before);
         let expected = case.answer();
         let code = *expected.as_ref().err().unwrap_or(&0);
         assert_eq!(reply, code as i32, "decode {case:?}");
@@ -192,6 +215,37 @@ impl Calls for Library {
             }
         }
         self.0.count("decode", code);
+    }
+    fn edit(&mut self, _: &mut Rng, case: &EditCase) {
+        let mut after = case.list.clone();
+        let reply = match &case.edit {
+            Edit::Add(line) => library::add_entry(&mut after, case.used, line),
+            Edit::Remove(entry) => library::remove_entry(&mut after, case.used, *entry),
+        };
+        let (expected, list) = case.answer();
+        let meant = expected.map_or_else(|code| -(code as i64), |count| count as i64);
+        assert_eq!(reply, meant, "{case:?}");
+        assert_eq!(after, list, "{case:?}");
+        self.0.count(case.call(), expected.err().unwrap_or(0));
+    }
+    fn same_book(&mut self, rng: &mut Rng, text: &[u8], case: &DecodeCase, steps: &[Step]) {
+        let (edited, said) = (&case.book, String::from_utf8_lossy(text));
+        let mut fresh = garbage32(rng, edited.len() + 9);
+        let count = library::read_book(text, &mut fresh);
+        let fresh = &fresh[..usize::try_from(count).expect("a good text")];
+        assert_eq!(fresh, edited, "{said}");
+        for entry in [0, 1, 2, rng.below(40), rng.draw() as usize] {
+            let part = library::target_part(fresh, entry);
+            assert_eq!(library::target_part(edited, entry), part, "{said}");
+        }
+        let before = lent(rng, case);
+        let answer = decoded(fresh, case, &before);
+        assert_eq!(decoded(edited, case, &before), answer, "{said} {case:?}");
+        let (steps, before) = (flat(steps), garbage64(rng, 6));
+        let given = scored(fresh, &case.direction, &steps, &before);
+        let again = scored(edited, &case.direction, &steps, &before);
+        assert_eq!(again, given, "{said} {case:?}");
+        self.0.count("an edited book as its text", 0);
     }
 }
 
@@ -224,9 +278,12 @@ fn main() {
 
 /// What was met too seldom; nothing where all was met.
 fn seldom(tally: &Tally, ways: &Ways, least: u64) -> String {
-    let rare: Vec<u8> = (1..=20).filter(|&k| tally.refusals(k) < least).collect();
+    let rare: Vec<u8> = (1..=22).filter(|&k| tally.refusals(k) < least).collect();
     if !rare.is_empty() {
         return format!("met fewer than {least} times: {rare:?}");
+    }
+    if let Some(said) = tally.seldom(&rounds::EDITS, least) {
+        return said;
     }
     match ways.seldom() {
         Some(said) if least > 0 => said,
