@@ -17,7 +17,7 @@ use Rattle.laws.proofs.Tests.{by-test, both}
 use Rattle.meaning.specs.Book.{InList, numberAt, naturalAt, isP, isPhraseLength, sizeOf, isWhole, loadedLines, Part, targetPartFrom, partOf, bookRefusal, targetPart}
 use Rattle.meaning.proofs.Ranges.{lines-passed}
 use Rattle.book.specs.declared.target.Part.{Part as Found}
-use Rattle.book.specs.Target.{IsPart}
+use Rattle.book.specs.Target.{entryFrom, EntryFound, IsPart}
 use Rattle.book.proofs.Cuts.{LineAt, lines-end, line-number, kind-same, line-long}
 
 -- a whole P line at `at` has a + b + 4 numbers
@@ -33,7 +33,7 @@ phrase-long loaded at size l p =
     (λ f. absurd (omega (arith, rw f at n, l .some)))
 
 -- so it has where the line sought is one
-pub phrase-here : (loaded : List ℤ) (at size left : ℕ) → LineAt loaded at size → isP (drop at loaded) && eqb left 1 ≡ true → size ≡ naturalAt loaded (at + 1) + naturalAt loaded (at + 2) + 4
+phrase-here : (loaded : List ℤ) (at size left : ℕ) → LineAt loaded at size → isP (drop at loaded) && eqb left 1 ≡ true → size ≡ naturalAt loaded (at + 1) + naturalAt loaded (at + 2) + 4
 phrase-here loaded at size left l e = phrase-long loaded at size l (both (isP (drop at loaded)) (eqb left 1) e .0)
 
 part-here : (k at : ℕ) (line : List ℤ) (lines : List (List ℤ)) → isP line && eqb k 1 ≡ true
@@ -50,34 +50,67 @@ part-end : (k at : ℕ) → targetPartFrom k at [] ≡ record { start = at; size
 unfolding targetPartFrom
 part-end k at = refl
 
+place-here : (k at : ℕ) (line : List ℤ) (lines : List (List ℤ)) → isP line && eqb k 1 ≡ true → entryFrom k at (line ∷ lines) ≡ at
+unfolding entryFrom
+place-here k at line lines e = rw e
+
+place-next : (k at : ℕ) (line : List ℤ) (lines : List (List ℤ)) → isP line && eqb k 1 ≡ false → entryFrom k at (line ∷ lines) ≡ entryFrom (cond (isP line) (k - 1) k) (at + length line) lines
+unfolding entryFrom
+place-next k at line lines e = rw e
+
+place-end : (k at : ℕ) → entryFrom k at [] ≡ at
+unfolding entryFrom
+place-end k at = refl
+
 -- the invariant: entry `entry` of the list is the `left`-th P line from `at` on
 pub record Sought (loaded : List ℤ) (entry left at : ℕ) : Type 0 where
   pub inside : at ≤ length loaded
   pub whole : all (isWhole InList) (loadedLines (drop at loaded)) ≡ true
   pub same : targetPartFrom left at (loadedLines (drop at loaded)) ≡ targetPartFrom entry 0 (loadedLines loaded)
+  pub place : entryFrom left at (loadedLines (drop at loaded)) ≡ entryFrom entry 0 (loadedLines loaded)
 
 pub sought-start : (loaded : List ℤ) (entry : ℕ) → all (isWhole InList) (loadedLines loaded) ≡ true → Sought loaded entry entry 0
-sought-start loaded entry w = record { inside = omega arith; whole = w; same = refl }
+sought-start loaded entry w = record { inside = omega arith; whole = w; same = refl; place = refl }
 
 module _ {loaded : List ℤ} {entry left at size : ℕ} (f : Sought loaded entry left at) (l : LineAt loaded at size) where
-  pub sought-here : isP (drop at loaded) && eqb left 1 ≡ true
-      → targetPartFrom entry 0 (loadedLines loaded) ≡ record { start = at + 3 + naturalAt loaded (at + 1); size = naturalAt loaded (at + 2) }
+  -- the line's kind, in the list and by itself
+  kind : isP (take size (drop at loaded)) ≡ isP (drop at loaded)
+  kind = kind-same loaded at size l
+
+  pub sought-here : isP (drop at loaded) && eqb left 1 ≡ true → EntryFound loaded entry at
   sought-here e =
-      sym (f .same) ∙ ap (targetPartFrom left at) (l .lines) ∙ part-here left at (take size (drop at loaded)) _ (rw (kind-same loaded at size l) e)
-      ∙ rw (line-number loaded at size 1 (let h = l .some in omega arith), line-number loaded at size 2 (let h = l .some in omega arith))
+      let n = phrase-here loaded at size left l e in
+      let h = l .inside in
+      let m = l .some in
+      record {
+        place-is = sym (sym (f .place) ∙ ap (entryFrom left at) (l .lines) ∙ place-here left at (take size (drop at loaded)) _ (rw kind e));
+        within = f .inside;
+        room = λ k. omega arith;
+        target = λ k.
+            sym (f .same) ∙ ap (targetPartFrom left at) (l .lines) ∙ part-here left at (take size (drop at loaded)) _ (rw kind e)
+            ∙ rw (line-number loaded at size 1 (omega arith), line-number loaded at size 2 (omega arith));
+        none = λ k. absurd (omega arith);
+      }
 
   pub sought-next : isP (drop at loaded) && eqb left 1 ≡ false → Sought loaded entry (cond (isP (drop at loaded)) (left - 1) left) (at + size)
   sought-next e =
       record {
         inside = l .inside;
         whole = both (isWhole InList (take size (drop at loaded))) _ (sym (ap (all (isWhole InList)) (l .lines)) ∙ f .whole) .1;
-        same = sym (sym (f .same) ∙ ap (targetPartFrom left at) (l .lines) ∙ part-next left at (take size (drop at loaded)) _ (rw (kind-same loaded at size l) e) ∙ rw (kind-same loaded at size l, line-long loaded at size l));
+        same = sym (sym (f .same) ∙ ap (targetPartFrom left at) (l .lines) ∙ part-next left at (take size (drop at loaded)) _ (rw kind e) ∙ rw (kind, line-long loaded at size l));
+        place = sym (sym (f .place) ∙ ap (entryFrom left at) (l .lines) ∙ place-next left at (take size (drop at loaded)) _ (rw kind e) ∙ rw (kind, line-long loaded at size l));
       }
 
-pub sought-end : {loaded : List ℤ} {entry left at : ℕ} → Sought loaded entry left at → length loaded ≤ at
-    → targetPartFrom entry 0 (loadedLines loaded) ≡ record { start = at; size = 0 }
+pub sought-end : {loaded : List ℤ} {entry left at : ℕ} → Sought loaded entry left at → length loaded ≤ at → EntryFound loaded entry at
 sought-end {loaded} {entry} {left} {at} f h =
-    sym (f .same) ∙ ap (λ (l : List ℤ). targetPartFrom left at (loadedLines l)) (drop-of-length-le loaded h) ∙ ap (targetPartFrom left at) lines-end ∙ part-end left at
+    let none : loadedLines (drop at loaded) ≡ [] = ap loadedLines (drop-of-length-le loaded h) ∙ lines-end in
+    record {
+      place-is = sym (sym (f .place) ∙ ap (entryFrom left at) none ∙ place-end left at);
+      within = f .inside;
+      room = λ k. absurd (omega arith);
+      target = λ k. absurd (omega arith);
+      none = λ k. sym (f .same) ∙ ap (targetPartFrom left at) none ∙ part-end left at;
+    }
 
 -- the part that was found, as code takes it
 pub part-is : {loaded : List ℤ} {found : Found} {part : Part} → IsPart loaded found part

@@ -1,16 +1,17 @@
--- How many n-grams a text can have: a whole line has four numbers, and each number two bytes of a book's text, one at least before its mark.
+-- How many n-grams a text can have, and how many numbers its loaded book: a whole line has four numbers, and each number two bytes of a book's text, one at least before its mark.
 use Prim.Native.Nat.{ℕ, _+_, _*_, _≤_}
 use native.Mathlib.Omega.{arith}
 use mathlib.Core.Path.{_≡_, refl, ap}
-use mathlib.Core.Bool.{true}
-use mathlib.Core.List.{List, [], _∷_}
+use mathlib.Core.Bool.{true, not, _&&_}
+use mathlib.Core.List.{List, [], _∷_, _++_, map}
 use lib.IntN.{ℤ}
-use lib.ListN.{length, length-append}
-use Rattle.laws.specs.Lists.{all, count, concat}
+use lib.ListN.{length, take, length-append, length-take}
+use Rattle.laws.specs.Lists.{all, count, isEmpty, concat}
 use Rattle.laws.proofs.Bits.{one-le}
 use Rattle.laws.proofs.Lists.{count-cons}
 use Rattle.laws.proofs.Tests.{both, clash}
-use Rattle.meaning.specs.Book.{Form, InText, isWhole, isGram, textLines}
+use Rattle.meaning.specs.Numerals.{linesOf, isEnded}
+use Rattle.meaning.specs.Book.{Form, InText, isTextLine, isBookText, lineNumbers, isWhole, isGram, textLines, storedCounts, withCounts, loadedBook, loadedOf}
 use Rattle.meaning.proofs.Sizes.{four-numbers}
 use Rattle.fields.specs.Scan.{Scan, Line, Kind, Field, Minus, Digits, Broken, next, run, atLine, emit}
 use Rattle.fields.proofs.Cut.{Sort, sort}
@@ -91,3 +92,27 @@ eight-bytes {text} w =
     let each = four-each InText (textLines text) (w .lines .whole) in
     let two = two-bytes text Line (book-run text (w .formed)) in
     omega (arith, each, two, ap length (book-numbers text (w .formed)), ap gramCount (w .lines .tallied), grams-counted (textLines text))
+
+-- ---- and the loaded book no more numbers than the text has bytes
+
+-- the counts are two numbers more
+counts-two : (lines : List (List ℤ)) → length (concat (withCounts lines)) ≤ 2 + length (concat lines)
+counts-two [] = omega arith
+counts-two (line ∷ lines) =
+    omega (arith, length-append (take 4 line ++ storedCounts (line ∷ lines)) (concat lines), length-append (take 4 line) (storedCounts (line ∷ lines)), length-take 4 line, length-append line (concat lines))
+
+-- a text has two numbers at least: the kind of its first line, and one behind it
+two-numbers : (lines : List (List (List ℕ))) → not (isEmpty lines) ≡ true → all isTextLine lines ≡ true → 2 ≤ length (concat (map lineNumbers lines))
+unfolding isTextLine
+two-numbers [] s t = clash s refl
+two-numbers ([] ∷ lines) s t = clash (both (isTextLine []) (all isTextLine lines) t .0) refl
+two-numbers ((letter ∷ []) ∷ lines) s t = clash (both (isTextLine (letter ∷ [])) (all isTextLine lines) t .0) refl
+two-numbers ((letter ∷ field ∷ fields) ∷ lines) s t = omega arith
+
+pub loaded-few : (text : List ℕ) → isBookText text ≡ true → length (loadedOf text) ≤ length text
+unfolding loadedOf loadedBook textNumbers textLines isBookText
+loaded-few text h =
+    let a = both (not (isEmpty (linesOf text)) && isEnded text) (all isTextLine (linesOf text)) h in
+    let s = both (not (isEmpty (linesOf text))) (isEnded text) (a .0) in
+    let two = two-bytes text Line (book-run text h) in
+    omega (arith, two, ap length (book-numbers text h), counts-two (textLines text), two-numbers (linesOf text) (s .0) (a .1))

@@ -2,12 +2,11 @@
 -- lines, where the text is a book's; and it is one where every line is good.
 use Prim.Native.Nat.{ℕ, _+_, _/_, _≤_, _<_}
 use native.Mathlib.Omega.{arith}
-use native.Mathlib.Nat.{zero-add}
 use mathlib.Core.Path.{_≡_, refl, sym, _∙_, ap}
 use mathlib.Core.Bool.{Bool, true, false, _&&_}
 use mathlib.Core.List.{List, []}
 use lib.IntN.{ℤ}
-use lib.ListN.{length, getD, drop, length-append, drop-of-length-le}
+use lib.ListN.{length, drop, length-append, drop-of-length-le}
 use Rattle.laws.specs.Lists.{all}
 use Rattle.laws.proofs.Tests.{clash}
 use Rattle.meaning.specs.Book.{InText, isWhole, isBookText, textLines}

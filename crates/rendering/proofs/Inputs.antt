@@ -23,7 +23,7 @@ use Rattle.meaning.specs.declared.Refusal.{Refusal}
 use Rattle.meaning.proofs.Chains.{done-passes, done-is, refused-is}
 use Rattle.meaning.proofs.Demands.{numbers-to, direction-to}
 use Rattle.meaning.proofs.Rooms.{read-room, direction-room, decode-room}
-use Rattle.text.proofs.Numbers.{numbers-few}
+use Rattle.reading.proofs.Room.{loaded-few}
 use Rattle.meaning.proofs.Numbered.{number-from}
 use Rattle.rendering.specs.Parts.{decodeOff, printedRead}
 
@@ -68,9 +68,9 @@ module _ (text : List ℕ) (read : Read) where
 
 -- ════ the lists' lengths
 
--- a book's text has no more numbers than bytes
+-- a loaded book has no more numbers than its text bytes
 book-places : (text : List ℕ) → length text ≤ 8_192 → readRefusal text 8_192 ≡ readRefusal text (length (loadedOf text))
-book-places text h = read-room text 8_192 (length (loadedOf text)) (λ t. omega (arith, numbers-few text t)) (λ _. le-refl _)
+book-places text h = read-room text 8_192 (length (loadedOf text)) (λ t. omega (arith, loaded-few text t)) (λ _. le-refl _)
 
 -- a direction that 9 passes has at most 32 words
 direction-places : (text : List ℕ) → readDirectionRefusal text 32 ≡ readDirectionRefusal text (length (directionOf text))

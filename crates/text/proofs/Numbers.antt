@@ -3,11 +3,9 @@
 use mathlib.Core.Path.{_≡_, refl, sym, ap, _∙_}
 use mathlib.Core.Bool.{Bool, true, false, cond, _&&_}
 use mathlib.Core.List.{List, [], _∷_, _++_, append-nil, map, dropLast}
-use Prim.Native.Nat.{ℕ, zero, suc, _+_, _*_, _-_, _≤_}
-use native.Mathlib.Omega.{arith}
+use Prim.Native.Nat.{ℕ, zero, suc, _+_, _*_, _-_}
 use native.Mathlib.Nat.{zero-mul, zero-add}
 use lib.Dec.{eqb}
-use lib.ListN.{length}
 use lib.IntN.{ℤ, pos, negℤ}
 use Rattle.laws.specs.Lists.{isEmpty, concat}
 use Rattle.laws.proofs.Tests.{both, clash}
@@ -15,7 +13,7 @@ use Rattle.meaning.specs.Numerals.{isDigit, digitsValue, valueOf}
 use Rattle.meaning.specs.Book.{kindOfByte, lineNumbers, isBookText, textLines}
 use Rattle.meaning.specs.Direction.{isDirectionText, directionNumbers}
 use Rattle.text.specs.Walk.{textNumbers}
-use Rattle.fields.specs.Scan.{Scan, Line, Kind, Field, Minus, Digits, Broken, moreDigits, next, lineStart, afterNumber, run, atLine, signed, scanned, isMark, emit}
+use Rattle.fields.specs.Scan.{Scan, Line, Kind, Field, Minus, Digits, Broken, moreDigits, next, lineStart, afterNumber, run, atLine, signed, scanned, emit}
 use Rattle.fields.proofs.Cut.{Cut, line, cut, Sort, sort, areNumbers, isRest, book-is, book-empty, direction-is, lines-are}
 use Rattle.fields.proofs.Form.{accepted, stop, no-line, kind-is, letterBy, numberBy, positiveBy, digitsBy}
 
@@ -151,15 +149,3 @@ direction-numbers t h =
     one-line l [] e = clash e refl
     one-line l (m ∷ []) e = append-nil (map valueOf l) ∙ ap (map valueOf) (sym (append-nil l))
     one-line l (m ∷ n ∷ ls) e = clash e refl
-
--- there are no more numbers than bytes
-emit-few : (book : Bool) (s : Scan) (t : List ℕ) → length (emit book s t) ≤ length t
-emit-few book s [] = omega arith
-emit-few book s (b ∷ bs) = each (isMark b) (emit-few book (next book s b) bs)
-  where
-    each : (m : Bool) → length (emit book (next book s b) bs) ≤ length bs → length (cond m (scanned s ∷ emit book (next book s b) bs) (emit book (next book s b) bs)) ≤ length (b ∷ bs)
-    each true h = omega arith
-    each false h = omega arith
-
-pub numbers-few : (t : List ℕ) → isBookText t ≡ true → length (textNumbers t) ≤ length t
-numbers-few t h = omega (arith, emit-few true Line t, ap length (book-numbers t h))

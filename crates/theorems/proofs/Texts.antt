@@ -1,14 +1,14 @@
 -- The lines of a text as bytes: a text behind one that is ended (`lines-appended`), and the text of lines (`lines-joined`).
-use Prim.Native.Nat.{ℕ, _-_}
+use Prim.Native.Nat.{ℕ}
 use mathlib.Core.Path.{_≡_, refl, sym, ap, _∙_}
-use mathlib.Core.Bool.{Bool, true, false, not, _&&_, cond, false≢true}
+use mathlib.Core.Bool.{Bool, true, false, not, _&&_, false≢true}
 use mathlib.Core.List.{List, [], _∷_, _++_, map, map-append, dropLast, append-nil}
 use borrow.Author.Tests.{not-true, eq-eqb}
 use lib.Dec.{eqb}
 use lib.IntN.{ℤ}
 use Rattle.laws.specs.Lists.{all, withoutBy, isEmpty}
 use Rattle.laws.proofs.Lists.{all-++, all-without, map-without}
-use Rattle.laws.proofs.Tests.{by-test, both, both-of, if-ind, ap-cond}
+use Rattle.laws.proofs.Tests.{by-test, both, both-of, if-ind}
 use Rattle.meaning.specs.Numerals.{newline, comma, before, split, lastPart, isEnded, linesOf}
 use Rattle.meaning.specs.Book.{isP, isTextLine, isBookText, lineNumbers, textLines}
 use Rattle.meaning.specs.Revision.{withoutEntry}
