@@ -32,13 +32,15 @@ unfoldable pub added : List ℤ → ℕ → List ℤ → List ℤ
 added list used line = loadedBook (withEntry (linesInUse list used) line)
 
 -- "An added line, once the book has passed, answers 2 (no numbers, another kind or numbers left over too), 4, 5 and 7 as in reading."
-unfoldable pub addRefusal : List ℤ → ℕ → List ℤ → ℕ
-addRefusal list used line =
-    inUseRefusal list used
-    orelse 2 unless (isP line && isWhole InList line)
+abbrev pub lineRefusal : List ℤ → ℕ → List ℤ → ℕ
+lineRefusal list used line =
+    2 unless (isP line && isWhole InList line)
     orelse 4 unless isInRange line
     orelse 5 unless isNotTooLong (withEntry (linesInUse list used) line)
     orelse 7 unless leb (length (added list used line)) (length list)
+
+unfoldable pub addRefusal : List ℤ → ℕ → List ℤ → ℕ
+addRefusal list used line = inUseRefusal list used orelse lineRefusal list used line
 
 -- "Each such call reports the numbers then in use."
 unfoldable pub addEntry : List ℤ → ℕ → List ℤ → Reply ℕ

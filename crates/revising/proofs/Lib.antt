@@ -1,0 +1,3 @@
+pub mod Books
+pub mod Removal
+pub mod Replies
