@@ -19,6 +19,8 @@ use Rattle.meaning.specs.declared.Read.{Read}
 use Rattle.meaning.specs.declared.Read.the-variants.{Numbers, Refused}
 use Rattle.meaning.proofs.Chains.{test-passes, rest-passes, done-passes, done-is}
 use Rattle.meaning.proofs.Numbered.{number-to}
+use Rattle.meaning.specs.Revision.{added, addRefusal, addEntry, removed, removeRefusal, removeEntry}
+use Rattle.revising.proofs.Replies.{addable, removed-fits}
 use Rattle.ffi.specs.Bounds.{Counted}
 use Rattle.meaning.specs.Questions.{_unless_, number}
 use Rattle.meaning.specs.declared.Refusal.{Refusal}
@@ -65,3 +67,12 @@ book-reply text places r e = e
 pub direction-reply : (text : List ℕ) (places : ℕ) (r : Read) → readReply r ≡ readDirection text places → readReply r ≡ reply (readDirectionRefusal text places) (length (directionOf text))
 unfolding readDirection
 direction-reply text places r e = e
+
+-- and of the two revisions: what is then in use is within the lent list
+pub added-counted : (list : List ℤ) (used : ℕ) (line : List ℤ) (r : Read) → readReply r ≡ addEntry list used line → length list < 9_223_372_036_854_775_808 → Counted r
+unfolding addEntry
+added-counted list used line r e h = counted r (addRefusal list used line) (length (added list used line)) (length list) e (λ p. addable list used line p .fits) h
+
+pub removed-counted : (list : List ℤ) (used k : ℕ) (r : Read) → readReply r ≡ removeEntry list used k → length list < 9_223_372_036_854_775_808 → Counted r
+unfolding removeEntry
+removed-counted list used k r e h = counted r (removeRefusal list used k) (length (removed list used k)) (length list) e (removed-fits list used k) h

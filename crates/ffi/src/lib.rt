@@ -10,6 +10,7 @@ ghost use lib.ListN.{length};
 ghost use Rattle.meaning.specs.Questions.{number};
 ghost use Rattle.meaning.specs.Book.{bookRefusal, targetPart};
 ghost use Rattle.meaning.specs.Reply.{readReply, readBook, readBookList, readDirection, readDirectionList, filledWith, scoreProposal};
+ghost use Rattle.meaning.specs.Revision.{addEntry, addEntryList, removeEntry, removeEntryList};
 ghost use Rattle.ffi.specs.Bounds.{Counted};
 ghost use Rattle.lists.specs.Steps.{recordsIn};
 ghost use Rattle.ffi.specs.Calls.{countOrRefusal, zeroOrRefusal, scoreReport, DecodesNumbers};
@@ -21,7 +22,7 @@ fn code_of(refusal: Refusal) -> i32
     meaning::number_of(refusal) as i32
 }
 
-// How many numbers were read, or minus the refusal.
+// How many numbers were read, or are in use, or minus the refusal.
 fn count_or_refusal(reply: Read) -> i64
     requires { ⌜ Counted reply ⌝ }
     ensures { λ r. ⌜ r ≡ countOrRefusal (readReply reply) ⌝ }
@@ -52,7 +53,7 @@ pub extern "C" fn phrase_read_direction(text: &[u8], direction: &mut [u16]) -> i
     count_or_refusal(reply)
 }
 
-// Asks questions 2 to 6 and 20 of a loaded book: 0, or the refusal.
+// Asks questions 2 to 6, 21 and 20 of a loaded book: 0, or the refusal.
 #[no_mangle]
 pub extern "C" fn phrase_check_book(book: &[i32]) -> i32
     ensures { λ r. ⌜ r ≡ pos (bookRefusal (now (book .entry))) ⌝ }
@@ -61,6 +62,26 @@ pub extern "C" fn phrase_check_book(book: &[i32]) -> i32
         Checked::Passed => 0,
         Checked::Refused(refusal) => code_of(refusal),
     }
+}
+
+// Adds a P line, given as loaded numbers, to a loaded book: how many numbers are then in use, or minus the refusal.
+#[no_mangle]
+pub extern "C" fn phrase_add_entry(book: &mut [i32], used: usize, line: &[i32]) -> i64
+    ensures { λ r. ⌜ r ≡ countOrRefusal (addEntry (now (book .entry)) used (now (line .entry))) ⌝ }
+    ensures { λ _. ⌜ now (book .exit) ≡ addEntryList (now (book .entry)) used (now (line .entry)) ⌝ }
+{
+    let reply = revising::add_entry(book, used, line);
+    count_or_refusal(reply)
+}
+
+// Removes an entry from a loaded book: how many numbers are then in use, or minus the refusal.
+#[no_mangle]
+pub extern "C" fn phrase_remove_entry(book: &mut [i32], used: usize, entry: usize) -> i64
+    ensures { λ r. ⌜ r ≡ countOrRefusal (removeEntry (now (book .entry)) used entry) ⌝ }
+    ensures { λ _. ⌜ now (book .exit) ≡ removeEntryList (now (book .entry)) used entry ⌝ }
+{
+    let reply = revising::remove_entry(book, used, entry);
+    count_or_refusal(reply)
 }
 
 // Where an entry's target words start in the loaded book; the list's length where there are none.

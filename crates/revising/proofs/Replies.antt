@@ -8,16 +8,17 @@ use mathlib.Core.List.{List, _++_}
 use borrow.Author.Tests.{le-leb, lt-leb, leb-true}
 use lib.Dec.{leb}
 use lib.IntN.{ℤ, pos}
-use lib.ListN.{length, take, replicate}
+use lib.ListN.{length, take, replicate, length-set}
 use Rattle.laws.specs.Integers.{natOf}
-use Rattle.laws.specs.Lists.{count}
+use Rattle.laws.specs.Lists.{count, concat}
 use Rattle.laws.proofs.Tests.{both}
 use Rattle.meaning.specs.Questions.{_unless_, _orelse_, within, number}
 use Rattle.meaning.specs.Book.{InList, naturalAt, isP, isWhole, isInRange, isNotTooLong, phrasesMost, bookRefusal}
 use Rattle.meaning.specs.Reply.{refused, done, reply, writtenOver, writtenIf}
-use Rattle.meaning.specs.Revision.{linesInUse, inUseRefusal, withEntry, added, lineRefusal, addRefusal, addEntry, addEntryList, removed, removeRefusal, removeEntry, removeEntryList}
+use Rattle.meaning.specs.Revision.{linesInUse, inUseRefusal, withEntry, added, lineRefusal, addRefusal, addEntry, addEntryList, withoutEntry, removed, removeRefusal, removeEntry, removeEntryList}
 use Rattle.meaning.specs.declared.Refusal.{Refusal}
 use Rattle.meaning.proofs.Chains.{first-passes, rest-passes, test-passes, done-passes}
+use Rattle.meaning.proofs.Revised.{fewer-numbers, removed-numbers}
 use Rattle.meaning.proofs.Numbered.{number-from, refused-first, refused-reply}
 use Rattle.revising.proofs.Books.{InUse, in-use, stored, one-more, added-long}
 
@@ -131,3 +132,12 @@ module _ (list : List ℤ) (used k : ℕ) where
       → (done n ≡ removeEntry list used k) × (writtenOver (removed list used k ++ replicate (used - length (removed list used k)) (pos 0)) list ≡ removeEntryList list used k)
   unfolding removeEntry removeEntryList
   remove-done n c e = rw (e, c) (refl, refl)
+
+  -- what is left is within the list
+  pub removed-fits : removeRefusal list used k ≡ 0 → length (removed list used k) ≤ length list
+  unfolding removeRefusal removed
+  removed-fits e =
+      let b = in-use list used (first-passes (inUseRefusal list used) _ e) in
+      let w = test-passes 21 (within 1 (count isP (linesInUse list used)) k) (rest-passes (inUseRefusal list used) _ e) in
+      let n = ap length (removed-numbers k (linesInUse list used) (b .passed) w) ∙ length-set (concat (withoutEntry k (linesInUse list used))) 4 (pos (count isP (linesInUse list used) - 1)) in
+      omega (arith, n, fewer-numbers k (linesInUse list used), ap length (b .back), b .long, b .room)

@@ -9,6 +9,8 @@
 //     6 BOOK DIRECTION width steps words store fill    decode with records
 //     7 DIRECTION                check a direction
 //     8 TEXT TEXT fill           what the rendering program prints
+//     9 LIST used LINE fill      add an entry; the list printed is held to LIST
+//     10 LIST used entry fill    remove an entry, in the same way
 //
 // `places`, `steps`, `words` and `store` say how many places are lent, `fill` what the first place of each list holds (`case_fill`). To
 // add cases, add lines to `stdin`, and write `stdout` by the second decoder's program `cases`.
@@ -27,6 +29,8 @@ fn call(text: &[u8], at: usize, number: u64) {
         6 => case_decoding::decode(text, at),
         7 => case_reading::check_direction(text, at),
         8 => case_decoding::render(text, at),
+        9 => case_revising::add_entry(text, at),
+        10 => case_revising::remove_entry(text, at),
         _ => say::word(b"no such call"),
     }
 }
