@@ -242,19 +242,22 @@ fn size(book: &[i32], at: usize) -> usize {
     }
 }
 
-/// The B line and the first lines of a loaded book.
+/// The B record and the first lines of a loaded book, which has P and T lines alone.
 fn small_part(book: &[i32], lines: usize) -> Vec<i32> {
-    let mut end = 4;
+    let (mut end, mut counts) = (6, [0; 2]);
     for _ in 1..lines {
+        counts[(book[end] - 2) as usize] += 1;
         end += size(book, end);
     }
-    book[..end].to_vec()
+    let mut part = book[..end].to_vec();
+    part[4..6].copy_from_slice(&counts);
+    part
 }
 
 /// The book with every score and eta 0; and, where wanted, with one word for all target words of its entries.
 fn all_equal(mut book: Vec<i32>, one_word: bool) -> Vec<i32> {
     book[2..4].fill(0);
-    let mut at = 4;
+    let mut at = 6;
     while at < book.len() {
         let end = at + size(&book, at);
         if one_word && book[at] == 2 {
@@ -322,12 +325,49 @@ fn read(name: &str, text: &str) {
     );
 }
 
+/// An edit of a full book beside a check of it, both by the library; what is to be edited is put in the list before each turn.
+fn edit(name: &str, before: &[i32], used: usize, edit: impl Fn(&mut [i32]) -> i64, then: usize) {
+    let mut list = before.to_vec();
+    let (mut a, mut b) = (Duration::MAX, Duration::MAX);
+    for _ in 0..300 {
+        list.copy_from_slice(before);
+        let start = Instant::now();
+        assert_eq!(edit(&mut list), then as i64);
+        a = a.min(start.elapsed());
+        let start = Instant::now();
+        assert_eq!(library::check_book(&before[..used]), 0);
+        b = b.min(start.elapsed());
+    }
+    println!(
+        "{name:40} {used:8} {:9.3} {:9.3} {:35.2}",
+        a.as_secs_f64() * 1e3,
+        b.as_secs_f64() * 1e3,
+        ratio(a, b)
+    );
+}
+
+/// A full book, of as many lines of each kind as allowed, and its entries: all of 20 numbers, and the first lines behind the B record.
+fn revising() {
+    println!("revising a full book                      numbers   edit ms  check ms                               ratio");
+    let full = plain_reader::read(&text_of_all(&mut Rng::new(5))).expect("a good book");
+    let n = full.len();
+    for entry in [1, 2_048, 4_096] {
+        let name = format!("remove entry {entry}");
+        let remove = |list: &mut [i32]| library::remove_entry(list, n, entry);
+        edit(&name, &full, n, remove, n - 20);
+    }
+    let mut fewer = full.clone();
+    assert_eq!(library::remove_entry(&mut fewer, n, 1), n as i64 - 20);
+    let add = |list: &mut [i32]| library::add_entry(list, n - 20, &full[6..26]);
+    edit("add entry 4096", &fewer, n - 20, add, n);
+}
+
 /// The questions of a good book's text, asked of it as a loaded list: by the library alone.
 fn check(text: &str) {
     let book = plain_reader::read(text).expect("a good book");
     let (a, _) = side_by_side(200, || assert_eq!(library::check_book(&book), 0), || ());
     println!(
-        "questions 2 to 6 of that book, loaded:   {:.3} ms",
+        "questions 2 to 6, 21 and 20 of that book, loaded: {:.3} ms",
         a.as_secs_f64() * 1e3
     );
 }
@@ -359,4 +399,6 @@ fn main() {
     decoding_back_off();
     println!();
     reading();
+    println!();
+    revising();
 }

@@ -83,7 +83,7 @@ impl Seen {
     }
 }
 
-/// The loaded book, or nothing where something is wrong.
+/// The loaded book, or nothing where something is wrong. Behind the numbers of its first line stand how many P and T lines there are.
 pub fn read(text: &str) -> Option<Vec<i32>> {
     let mut book = Vec::new();
     let (mut seen, mut row) = (Seen::default(), Vec::new());
@@ -100,6 +100,14 @@ pub fn read(text: &str) -> Option<Vec<i32>> {
         }
         book.push(seen.add(kind, &row)?);
         book.extend_from_slice(&row);
+        if k == 0 {
+            book.extend([0, 0]);
+        }
     }
-    (seen.few_enough() && !book.is_empty()).then_some(book)
+    if !seen.few_enough() || book.is_empty() {
+        return None;
+    }
+    book[4] = seen.phrases as i32;
+    book[5] = seen.triples.len() as i32;
+    Some(book)
 }
