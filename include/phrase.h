@@ -2,12 +2,14 @@
  *
  * A list is lent as a pointer and its length. Every call may be handed any list and any number: it answers, or refuses with the number of the
  * question whose answer was no (docs/REFUSALS.md). No call keeps a pointer, allocates, or touches a list beyond its length.
- * A list that a call may write (book or direction of a reading, steps, words, store, report) must not overlap another list of the same call;
+ * A list that a call may write (book or direction of a reading, the book of an addition or a removal, steps, words, store, report) must not overlap another list of the same call;
  * lists that are only read may. A pointer is aligned for its type, and not null even where the length is 0.
- * A decode takes 756,000 bytes of stack, a scoring 494,000, reading or checking a book and the two target calls 477,000, reading a direction
+ * A decode takes 756,000 bytes of stack, a scoring 494,000, reading, checking or revising a book and the two target calls 477,000, reading a direction
  * fewer than 1,000.
  *
- * A loaded book is a list of signed 32-bit numbers. Calls after phrase_read_book are lent just the numbers that it wrote.
+ * A loaded book is a list of signed 32-bit numbers: those of its lines, one line after the other, each with its kind first (B 1, P 2, T 3, U 4, D 5), and
+ * behind d, eta and u of the B line, which is the first, how many P lines and how many T lines there are. Calls after phrase_read_book are lent just the
+ * numbers in use: those that it wrote, or as many as the last addition or removal returned. No call keeps anything of a book from one call to the next.
  * A step is three unsigned 16-bit numbers: first, last, entry. Positions and entries count from 1. Numbers left over behind the last whole step
  * are no place. A store is a list of signed 64-bit numbers, eight to a state.
  * A report list gets as many of its values as it has places, and nothing on a refusal.
@@ -33,20 +35,31 @@ int64_t phrase_read_book(const uint8_t *text, size_t text_len, int32_t *book, si
  * Places of `direction` behind those words are as before; after a refusal all of it is. */
 int64_t phrase_read_direction(const uint8_t *text, size_t text_len, uint16_t *direction, size_t direction_len);
 
-/* Asks questions 2 to 6 and 20 of a loaded book. Returns 0, or the refusal. Changes nothing. */
+/* Adds a phrase, a P line given as loaded numbers (2, a, b, a source words, b target words, the score), after the last line of the book whose numbers in
+ * use are the first `used` of the list. Returns how many numbers are then in use, or minus the refusal: 7 where `used` is more than the list holds, before
+ * all else; 2 to 6, 21 or 20 of the book; then of the line 2, 4, 5 (4,096 P lines are there already) or 7 (no room for it).
+ * The new entry is the last one. Places of `book` behind the line are as before; after a refusal all of it is. */
+int64_t phrase_add_entry(int32_t *book, size_t book_len, size_t used, const int32_t *line, size_t line_len);
+
+/* Removes entry `entry`, counted from 1; the entries behind it are then numbered one less. Returns how many numbers are then in use, or minus the refusal: 7
+ * where `used` is more than the list holds, before all else; 2 to 6, 21 or 20 of the book; 22 where there is no such entry.
+ * The places that are freed, at the end of those that were in use, are zero, and those behind them as before; after a refusal all of `book` is. */
+int64_t phrase_remove_entry(int32_t *book, size_t book_len, size_t used, size_t entry);
+
+/* Asks questions 2 to 6, 21 and 20 of a loaded book. Returns 0, or the refusal. Changes nothing. */
 int32_t phrase_check_book(const int32_t *book, size_t book_len);
 
-/* Where the target words of an entry stand in a loaded book, and how many they are. For a number that is no entry, and for a list that 2 to 6
- * or 20 refuse: the list's length, and 0. Change nothing. */
+/* Where the target words of an entry stand in a loaded book, and how many they are. For a number that is no entry, and for a list that 2 to 6,
+ * 21 or 20 refuse: the list's length, and 0. Change nothing. */
 int64_t phrase_target_start(const int32_t *book, size_t book_len, size_t entry);
 int64_t phrase_target_count(const int32_t *book, size_t book_len, size_t entry);
 
-/* Scores a proposed list of steps, of any number. Returns 0, or the refusal: 2 to 6, 20, 9, 10, 16 to 19.
+/* Scores a proposed list of steps, of any number. Returns 0, or the refusal: 2 to 6, 21, 20, 9, 10, 16 to 19.
  * report, five values: the score, and how many target words were supplied by triples, pairs, words and u. Changes nothing else. */
 int32_t phrase_score(const int32_t *book, size_t book_len, const uint16_t *direction, size_t direction_len,
                      const uint16_t *steps, size_t steps_len, int64_t *report, size_t report_len);
 
-/* Finds the best derivation. `width` is -1 (pruning off) or the beam's width. Returns 0, or the refusal: 2 to 6, 20, 9 to 15.
+/* Finds the best derivation. `width` is -1 (pruning off) or the beam's width. Returns 0, or the refusal: 2 to 6, 21, 20, 9 to 15.
  * On success the steps stand at the front of `steps`, their target words at the front of `words`, and the places behind them are as before;
  * report, eight values: the score, the number of steps, of words, and of states entered, and how many target words were supplied by triples, pairs,
  * words and u: those that phrase_score reports of the same steps.

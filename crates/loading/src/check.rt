@@ -21,7 +21,7 @@ pub fn reply_of(loaded: Loaded) -> Checked
     }
 }
 
-// Questions 2 to 6 and 20, of a loaded book.
+// Questions 2 to 6, 21 and 20, of a loaded book.
 pub fn check_book(book: &[i32]) -> Checked
     ensures { λ r. ⌜ checkedReply r ≡ checkBook (now (book .entry)) ⌝ }
 {
@@ -30,7 +30,7 @@ pub fn check_book(book: &[i32]) -> Checked
     reply_of(loaded)
 }
 
-// Whether questions 2 to 6 and 20 pass a loaded book.
+// Whether questions 2 to 6, 21 and 20 pass a loaded book.
 fn passes(book: &[i32]) -> bool
     ensures { λ r. ⌜ r ≡ eqb (bookRefusal (now (book .entry))) 0 ⌝ }
 {

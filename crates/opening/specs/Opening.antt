@@ -16,7 +16,7 @@ use Rattle.opening.specs.declared.Opened.the-variants.{Book as Opens, Re
 use Rattle.opening.specs.declared.Start.{Start}
 use Rattle.opening.specs.declared.Start.the-variants.{Ready, Refused}
 
--- ════ questions 2 to 6 and 20
+-- ════ questions 2 to 6, 21 and 20
 
 -- they pass: the list has the book's n-grams as indexed records, and the places of its entries
 pub record Open (loaded : List ℤ) (index : List ℕ) (counts : Counts) : Type 0 where

@@ -1,4 +1,4 @@
-// A loaded book is opened once: questions 2 to 6 and 20, the index of its n-grams and the places of its entries. Then a direction is
+// A loaded book is opened once: questions 2 to 6, 21 and 20, the index of its n-grams and the places of its entries. Then a direction is
 // begun: questions 9 and 10, and the numbers that a search or a score works on.
 use book::entries;
 use derivation::Setup;
@@ -21,7 +21,7 @@ pub struct Counts {
     pub shorter: usize,
 }
 
-// What a book answers to questions 2 to 6 and 20: its counts, or the refusal.
+// What a book answers to questions 2 to 6, 21 and 20: its counts, or the refusal.
 pub enum Opened {
     Book(Counts),
     Refused(Refusal),
@@ -33,7 +33,7 @@ pub enum Start {
     Refused(Refusal),
 }
 
-// Questions 2 to 6 and 20 of a loaded book. Where they pass, `index` holds what is known of it: its n-grams as indexed records, and
+// Questions 2 to 6, 21 and 20 of a loaded book. Where they pass, `index` holds what is known of it: its n-grams as indexed records, and
 // the places of its entries; after a refusal, what it holds is not said.
 pub fn open_book(book: &[i32], index: &mut [u16]) -> Opened
     requires { ⌜ indexSize ≤ length (now index) ⌝ }
@@ -84,7 +84,7 @@ pub fn begin(book: &[i32], index: &[u16], counts: Counts, direction: &[u16]) -> 
     }
 }
 
-// One book and one direction: 2 to 6 and 20, then 9 and 10.
+// One book and one direction: 2 to 6, 21 and 20, then 9 and 10.
 pub fn open_and_begin(book: &[i32], direction: &[u16], index: &mut [u16]) -> Start
     requires { ⌜ indexSize ≤ length (now index) ⌝ }
     ensures { λ r. ⌜ StartOf (now (book .entry)) (now (direction .entry)) (now (index .exit)) r ⌝ }

@@ -44,7 +44,7 @@ module _ (loaded : List ℤ) (direction : List ℕ) (width : ℤ) (steps₀ step
   abbrev IsAnswered : Type 0
   IsAnswered = (a : Answer) × (result ≡ Done a)
 
-  -- the questions before the search, 2 to 6, 20 and 9 to 12, all pass
+  -- the questions before the search, 2 to 6, 21, 20 and 9 to 12, all pass
   abbrev Begins : Type 0
   Begins = beforeSearch loaded direction width lent ≡ 0
 
