@@ -255,7 +255,7 @@ fn last_of(line: &[i32]) -> i32
 }
 
 // Question 4, of a P line.
-fn ranges_p(line: &[i32]) -> bool
+pub fn ranges_p(line: &[i32]) -> bool
     ensures { λ r. ⌜ r ≡ rangesP (now (line .entry)) ⌝ }
 {
     if !are_words(line) {

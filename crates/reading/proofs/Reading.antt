@@ -1,6 +1,6 @@
 -- The answers of questions 1 to 7 of a book's text, in their order: which refusal each failed test gives, and what a refusal or a
 -- success says of the reply and of the lent list.
-use Prim.Native.Nat.{ℕ, zero, suc, _+_, _-_, _≤_}
+use Prim.Native.Nat.{ℕ, suc, _+_, _-_, _≤_}
 use native.Mathlib.Omega.{arith}
 use mathlib.Core.Path.{_≡_, refl, sym, ap, _∙_}
 use mathlib.Core.Bool.{true, false}
@@ -15,9 +15,9 @@ use Rattle.laws.proofs.Fill.{over, over-long, over-more}
 use Rattle.laws.proofs.Tests.{both}
 use Rattle.meaning.specs.Questions.{_unless_, number}
 use Rattle.meaning.specs.Book.{InText, isP, isT, phrasesMost, gramsMost, isNotTooLong, isBookText, textLines, linesRefusal, withCounts, loadedBook, loadedOf, readRefusal}
-use Rattle.meaning.specs.Reply.{refused, done, writtenOver, writtenIf, readBook, readBookList}
+use Rattle.meaning.specs.Reply.{refused, done, writtenOver, readBook, readBookList}
 use Rattle.meaning.specs.declared.Refusal.{Refusal}
-use Rattle.meaning.proofs.Chains.{first-passes, rest-passes, test-passes}
+use Rattle.meaning.proofs.Chains.{first-passes, rest-passes, test-passes, written-refused}
 use Rattle.meaning.proofs.Numbered.{number-from, refused-before-all, refused-reply}
 use Rattle.meaning.proofs.Ranges.{lines-passed}
 use Rattle.meaning.proofs.Loaded.{text-ind}
@@ -48,17 +48,13 @@ module _ (t : List ℕ) (places : ℕ) where
 
 -- ════ the reply and the list
 
-left : (k : ℕ) (new old : List ℤ) → 1 ≤ k → old ≡ writtenIf k new old
-left zero new old h = absurd (omega arith)
-left (suc k) new old h = refl
-
 module _ (t : List ℕ) (lent : List ℤ) where
   pub refused-so : (refusal : Refusal) → readRefusal t (length lent) ≡ number refusal
       → (refused (number refusal) ≡ readBook t (length lent)) × (lent ≡ readBookList t lent)
   unfolding readBook readBookList
   refused-so refusal e = (
     refused-reply refusal (readRefusal t (length lent)) (length (loadedOf t)) e,
-    left (readRefusal t (length lent)) (loadedOf t) lent (let h = number-from refusal in omega arith),
+    sym (written-refused (readRefusal t (length lent)) (loadedOf t) lent (let h = number-from refusal in omega arith)),
   )
 
   pub done-so : (n : ℕ) → n ≡ length (loadedOf t) → readRefusal t (length lent) ≡ 0

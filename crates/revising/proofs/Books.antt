@@ -2,7 +2,7 @@
 use Prim.Native.Nat.{ℕ, zero, suc, _+_, _-_, _≤_, _<_}
 use native.Mathlib.Omega.{arith}
 use mathlib.Core.Path.{_≡_, refl, sym, ap, _∙_}
-use mathlib.Core.Bool.{Bool, true, false, _&&_}
+use mathlib.Core.Bool.{true, and-true}
 use mathlib.Core.List.{List, [], _∷_, _++_, append-assoc}
 use borrow.Author.Tests.{leb-true}
 use lib.Dec.{leb}
@@ -63,11 +63,7 @@ unfolding isNotTooLong
 one-more lines line p e =
     let same = entry-others lines line e in
     let rest = both (leb (count isP lines) phrasesMost) _ (p .short) .1 in
-    rw (count-added lines line e, same-count same isT (not-p 3 refl), same-count same isU (not-p 4 refl), same-count same isD (not-p 5 refl), rest) (and-true′ (leb (suc (count isP lines)) phrasesMost))
-  where
-    and-true′ : (t : Bool) → t && true ≡ t
-    and-true′ true = refl
-    and-true′ false = refl
+    rw (count-added lines line e, same-count same isT (not-p 3 refl), same-count same isU (not-p 4 refl), same-count same isD (not-p 5 refl), rest) (and-true (leb (suc (count isP lines)) phrasesMost))
 
 -- a store to the first part of a list
 pub set-first : {A : Type 0} (xs ys : List A) (i : ℕ) (v : A) → i < length xs → set (xs ++ ys) i v ≡ set xs i v ++ ys

@@ -1,6 +1,6 @@
 -- The questions of an addition and of a removal, asked one after the other: which refusal each failed test gives, and what a refusal or a success says of
 -- the reply and of the list.
-use Prim.Native.Nat.{ℕ, zero, suc, _+_, _-_, _≤_, _<_}
+use Prim.Native.Nat.{ℕ, suc, _+_, _-_, _≤_, _<_}
 use native.Mathlib.Omega.{arith}
 use mathlib.Core.Path.{_≡_, refl, sym, ap, _∙_}
 use mathlib.Core.Bool.{Bool, true, false, _&&_}
@@ -13,11 +13,12 @@ use Rattle.laws.specs.Integers.{natOf}
 use Rattle.laws.specs.Lists.{count, concat}
 use Rattle.laws.proofs.Tests.{both}
 use Rattle.meaning.specs.Questions.{_unless_, _orelse_, within, number}
-use Rattle.meaning.specs.Book.{InList, naturalAt, isP, isWhole, isInRange, isNotTooLong, phrasesMost, bookRefusal}
-use Rattle.meaning.specs.Reply.{refused, done, reply, writtenOver, writtenIf}
+use Rattle.meaning.specs.Book.{InList, numberAt, naturalAt, isP, isWhole, rangesP, isInRange, isNotTooLong, phrasesMost, bookRefusal}
+use Rattle.meaning.specs.Reply.{refused, done, reply, writtenOver}
 use Rattle.meaning.specs.Revision.{linesInUse, inUseRefusal, withEntry, added, lineRefusal, addRefusal, addEntry, addEntryList, withoutEntry, removed, removeRefusal, removeEntry, removeEntryList}
 use Rattle.meaning.specs.declared.Refusal.{Refusal}
-use Rattle.meaning.proofs.Chains.{first-passes, rest-passes, test-passes, done-passes}
+use Rattle.meaning.proofs.Chains.{first-passes, rest-passes, test-passes, done-passes, written-refused}
+use Rattle.meaning.proofs.Ranges.{kind-is}
 use Rattle.meaning.proofs.Revised.{fewer-numbers, removed-numbers}
 use Rattle.meaning.proofs.Numbered.{number-from, refused-first, refused-reply}
 use Rattle.revising.proofs.Books.{InUse, in-use, stored, one-more, added-long}
@@ -49,8 +50,13 @@ module _ {list : List ℤ} {used : ℕ} (b : InUse list used) (line : List ℤ) 
   pub line-two : entry ≡ false → lineRefusal list used line ≡ 2
   line-two e = rw e
 
-  pub line-four : entry ≡ true → isInRange line ≡ false → lineRefusal list used line ≡ 4
-  line-four e f = rw (e, f)
+  -- question 4, of a P line
+  ranged : entry ≡ true → isInRange line ≡ rangesP line
+  unfolding isInRange
+  ranged e = let k : numberAt line 0 ≡ pos 2 = kind-is line 2 (both (isP line) (isWhole InList line) e .0) in rw k
+
+  pub line-four : entry ≡ true → rangesP line ≡ false → lineRefusal list used line ≡ 4
+  line-four e f = rw (e, ranged e ∙ f)
 
   -- question 5, by the count that the B record stores
   few : entry ≡ true → isNotTooLong (withEntry (linesInUse list used) line) ≡ leb (suc (naturalAt list 4)) phrasesMost
@@ -59,18 +65,18 @@ module _ {list : List ℤ} {used : ℕ} (b : InUse list used) (line : List ℤ) 
   long : entry ≡ true → length (added list used line) ≡ used + length line
   long e = added-long b line (both (isP line) (isWhole InList line) e .0)
 
-  pub line-five : entry ≡ true → isInRange line ≡ true → phrasesMost ≤ naturalAt list 4 → lineRefusal list used line ≡ 5
-  line-five e f h = let g : isNotTooLong (withEntry (linesInUse list used) line) ≡ false = few e ∙ lt-leb (suc (naturalAt list 4)) phrasesMost (omega arith) in rw (e, f, g)
+  pub line-five : entry ≡ true → rangesP line ≡ true → phrasesMost ≤ naturalAt list 4 → lineRefusal list used line ≡ 5
+  line-five e f h = let g : isNotTooLong (withEntry (linesInUse list used) line) ≡ false = few e ∙ lt-leb (suc (naturalAt list 4)) phrasesMost (omega arith) in rw (e, ranged e ∙ f, g)
 
-  module _ (e : entry ≡ true) (f : isInRange line ≡ true) (h : naturalAt list 4 < phrasesMost) where
+  module _ (e : entry ≡ true) (f : rangesP line ≡ true) (h : naturalAt list 4 < phrasesMost) where
     enough : isNotTooLong (withEntry (linesInUse list used) line) ≡ true
     enough = few e ∙ le-leb (suc (naturalAt list 4)) phrasesMost (omega arith)
 
     pub line-seven : length list - used < length line → lineRefusal list used line ≡ 7
-    line-seven r = let n : leb (length (added list used line)) (length list) ≡ false = lt-leb (length (added list used line)) (length list) (omega (arith, long e, b .room)) in rw (e, f, enough, n)
+    line-seven r = let n : leb (length (added list used line)) (length list) ≡ false = lt-leb (length (added list used line)) (length list) (omega (arith, long e, b .room)) in rw (e, ranged e ∙ f, enough, n)
 
     pub line-none : length line ≤ length list - used → lineRefusal list used line ≡ 0
-    line-none r = let n : leb (length (added list used line)) (length list) ≡ true = le-leb (length (added list used line)) (length list) (omega (arith, long e, b .room)) in rw (e, f, enough, n)
+    line-none r = let n : leb (length (added list used line)) (length list) ≡ true = le-leb (length (added list used line)) (length list) (omega (arith, long e, b .room)) in rw (e, ranged e ∙ f, enough, n)
 
 -- once all questions of an addition have passed
 pub record Addable (list : List ℤ) (used : ℕ) (line : List ℤ) : Type 0 where
@@ -98,14 +104,10 @@ addable list used line e =
 
 -- ════ the reply and the list
 
-left : (k : ℕ) (new old : List ℤ) → 1 ≤ k → old ≡ writtenIf k new old
-left zero new old h = absurd (omega arith)
-left (suc k) new old h = refl
-
 module _ (list : List ℤ) (used : ℕ) (line : List ℤ) where
   pub add-refused : (refusal : Refusal) → addRefusal list used line ≡ number refusal → (refused (number refusal) ≡ addEntry list used line) × (list ≡ addEntryList list used line)
   unfolding addEntry addEntryList
-  add-refused refusal e = (refused-reply refusal (addRefusal list used line) _ e, left (addRefusal list used line) _ list (omega (arith, e, number-from refusal)))
+  add-refused refusal e = (refused-reply refusal (addRefusal list used line) _ e, sym (written-refused (addRefusal list used line) _ list (omega (arith, e, number-from refusal))))
 
   pub add-done : (n : ℕ) → n ≡ length (added list used line) → addRefusal list used line ≡ 0 → (done n ≡ addEntry list used line) × (writtenOver (added list used line) list ≡ addEntryList list used line)
   unfolding addEntry addEntryList
@@ -126,7 +128,7 @@ module _ (list : List ℤ) (used k : ℕ) where
 
   pub remove-refused : (refusal : Refusal) → removeRefusal list used k ≡ number refusal → (refused (number refusal) ≡ removeEntry list used k) × (list ≡ removeEntryList list used k)
   unfolding removeEntry removeEntryList
-  remove-refused refusal e = (refused-reply refusal (removeRefusal list used k) _ e, left (removeRefusal list used k) _ list (omega (arith, e, number-from refusal)))
+  remove-refused refusal e = (refused-reply refusal (removeRefusal list used k) _ e, sym (written-refused (removeRefusal list used k) _ list (omega (arith, e, number-from refusal))))
 
   pub remove-done : (n : ℕ) → n ≡ length (removed list used k) → removeRefusal list used k ≡ 0
       → (done n ≡ removeEntry list used k) × (writtenOver (removed list used k ++ replicate (used - length (removed list used k)) (pos 0)) list ≡ removeEntryList list used k)

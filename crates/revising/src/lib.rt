@@ -43,7 +43,7 @@ fn check_line(list: &[i32], used: usize, line: &[i32]) -> Checked
     if !is_entry(line) {
         return Checked::Refused(Refusal::LineFields);
     }
-    if !lines::is_in_range(line) {
+    if !lines::ranges_p(line) {
         return Checked::Refused(Refusal::NumberRange);
     }
     if lines::PHRASES_MOST <= lines::natural_at(list, lines::B_IN_TEXT) {

@@ -18,26 +18,26 @@ is-entry-requires c κs = search needs
 returns : tie.Need-returns
 returns c = let a = c .before .before .args in let b = in-use (a .list .now) (a .used) (c .before .before .pre) in refused-reply LineFields (lineRefusal (a .list .now) (a .used) (a .line .now)) tt (line-two b (a .line .now) (sym (c .before .is-entry .ensures) ∙ not-true _ (c .if1 .taken)))
 
-is-in-range-requires : tie.Need-is-in-range-requires
-is-in-range-requires c κs = search needs
+ranges-p-requires : tie.Need-ranges-p-requires
+ranges-p-requires c κs = search needs
 
 returns-2 : tie.Need-returns-2
-returns-2 c = let a = c .before .before .before .before .args in let b = in-use (a .list .now) (a .used) (c .before .before .before .before .pre) in refused-reply NumberRange (lineRefusal (a .list .now) (a .used) (a .line .now)) tt (line-four b (a .line .now) (sym (c .before .before .before .is-entry .ensures) ∙ not-false _ (c .before .before .if1 .left)) (sym (c .before .is-in-range .ensures) ∙ not-true _ (c .if2 .taken)))
+returns-2 c = let a = c .before .before .before .before .args in let b = in-use (a .list .now) (a .used) (c .before .before .before .before .pre) in refused-reply NumberRange (lineRefusal (a .list .now) (a .used) (a .line .now)) tt (line-four b (a .line .now) (sym (c .before .before .before .is-entry .ensures) ∙ not-false _ (c .before .before .if1 .left)) (sym (c .before .ranges-p .ensures) ∙ not-true _ (c .if2 .taken)))
 
 natural-at-requires : tie.Need-natural-at-requires
 natural-at-requires c κs = search needs
 
 returns-3 : tie.Need-returns-3
-returns-3 c = let a = c .before .before .before .before .before .before .args in let b = in-use (a .list .now) (a .used) (c .before .before .before .before .before .before .pre) in refused-reply LineCount (lineRefusal (a .list .now) (a .used) (a .line .now)) tt (line-five b (a .line .now) (sym (c .before .before .before .before .before .is-entry .ensures) ∙ not-false _ (c .before .before .before .before .if1 .left)) (sym (c .before .before .before .is-in-range .ensures) ∙ not-false _ (c .before .before .if2 .left)) (omega (arith, c .before .natural-at .ensures, c .if3 .taken)))
+returns-3 c = let a = c .before .before .before .before .before .before .args in let b = in-use (a .list .now) (a .used) (c .before .before .before .before .before .before .pre) in refused-reply LineCount (lineRefusal (a .list .now) (a .used) (a .line .now)) tt (line-five b (a .line .now) (sym (c .before .before .before .before .before .is-entry .ensures) ∙ not-false _ (c .before .before .before .before .if1 .left)) (sym (c .before .before .before .ranges-p .ensures) ∙ not-false _ (c .before .before .if2 .left)) (omega (arith, c .before .natural-at .ensures, c .if3 .taken)))
 
 sub-if4 : tie.Need-sub-if4
 sub-if4 c = in-use (c .before .before .before .before .before .before .args .list .now) (c .before .before .before .before .before .before .args .used) (c .before .before .before .before .before .before .pre) .room
 
 returns-4 : tie.Need-returns-4
-returns-4 c = let a = c .before .before .before .before .before .before .before .args in let b = in-use (a .list .now) (a .used) (c .before .before .before .before .before .before .before .pre) in refused-reply ListTooShort (lineRefusal (a .list .now) (a .used) (a .line .now)) tt (line-seven b (a .line .now) (sym (c .before .before .before .before .before .before .is-entry .ensures) ∙ not-false _ (c .before .before .before .before .before .if1 .left)) (sym (c .before .before .before .before .is-in-range .ensures) ∙ not-false _ (c .before .before .before .if2 .left)) (omega (arith, c .before .before .natural-at .ensures, c .before .if3 .left)) (c .if4 .taken))
+returns-4 c = let a = c .before .before .before .before .before .before .before .args in let b = in-use (a .list .now) (a .used) (c .before .before .before .before .before .before .before .pre) in refused-reply ListTooShort (lineRefusal (a .list .now) (a .used) (a .line .now)) tt (line-seven b (a .line .now) (sym (c .before .before .before .before .before .before .is-entry .ensures) ∙ not-false _ (c .before .before .before .before .before .if1 .left)) (sym (c .before .before .before .before .ranges-p .ensures) ∙ not-false _ (c .before .before .before .if2 .left)) (omega (arith, c .before .before .natural-at .ensures, c .before .if3 .left)) (c .if4 .taken))
 
 returns-5 : tie.Need-returns-5
-returns-5 c = let a = c .before .before .before .before .before .before .before .args in let b = in-use (a .list .now) (a .used) (c .before .before .before .before .before .before .before .pre) in sym (reply-done (lineRefusal (a .list .now) (a .used) (a .line .now)) tt (line-none b (a .line .now) (sym (c .before .before .before .before .before .before .is-entry .ensures) ∙ not-false _ (c .before .before .before .before .before .if1 .left)) (sym (c .before .before .before .before .is-in-range .ensures) ∙ not-false _ (c .before .before .before .if2 .left)) (omega (arith, c .before .before .natural-at .ensures, c .before .if3 .left)) (c .if4 .left)))
+returns-5 c = let a = c .before .before .before .before .before .before .before .args in let b = in-use (a .list .now) (a .used) (c .before .before .before .before .before .before .before .pre) in sym (reply-done (lineRefusal (a .list .now) (a .used) (a .line .now)) tt (line-none b (a .line .now) (sym (c .before .before .before .before .before .before .is-entry .ensures) ∙ not-false _ (c .before .before .before .before .before .if1 .left)) (sym (c .before .before .before .before .ranges-p .ensures) ∙ not-false _ (c .before .before .before .if2 .left)) (omega (arith, c .before .before .natural-at .ensures, c .before .if3 .left)) (c .if4 .left)))
 
 pub check-line-spec : {M : Type 1} → statement M
 check-line-spec =
@@ -45,7 +45,7 @@ check-line-spec =
     (tie.spec
     is-entry-requires
     returns
-    is-in-range-requires
+    ranges-p-requires
     returns-2
     natural-at-requires
     returns-3
