@@ -1,0 +1,1 @@
+// The outline of an ARPA text: question 23.
