@@ -53,7 +53,7 @@ module _ (counts : List ℕ) (order unknown : ℕ) where
     unfolding restIs restShaped restNgrams
     rest-gram left h =
         let e : unknown + count isUnknown (restNgrams counts order (suc left) (line ∷ lines)) ≡ (unknown + one (isUnknown (ngramOf order line))) + count isUnknown (restNgrams counts order left lines)
-              = omega (arith, count-cons isUnknown (ngramOf order line) (restNgrams counts order left lines)) in
+        = omega (arith, count-cons isUnknown (ngramOf order line) (restNgrams counts order left lines)) in
         rw (e, h, leb·suc-suc left (length lines)) refl
 
     pub rest-no-gram : (left : ℕ) → isGramLine (length counts) order line ≡ false → restIs counts order (suc left) (line ∷ lines) unknown ≡ false
@@ -104,15 +104,15 @@ module _ (counts : List ℕ) where
   rest-walk (line ∷ lines) order zero o k h =
       by-test (leb (length counts) order)
       (λ t.
-        let l = leb-true (length counts) order t in
-        let e = eq-eqb (length line) 1 (mark-one endMark line (shaped-end counts order line lines l h)) in
-        (rw (e, eq-eqb order (length counts) (omega arith)) refl, rw (e, eq-eqb order (length counts) (omega arith), drop-of-length-le counts l) refl))
+      let l = leb-true (length counts) order t in
+      let e = eq-eqb (length line) 1 (mark-one endMark line (shaped-end counts order line lines l h)) in
+      (rw (e, eq-eqb order (length counts) (omega arith)) refl, rw (e, eq-eqb order (length counts) (omega arith), drop-of-length-le counts l) refl))
       (λ f.
-        let l = leb-false (length counts) order f in
-        let m = shaped-mark counts order line lines l h in
-        let e = eq-eqb (length line) 1 (mark-one (gramsMark (suc order)) line (m .0)) in
-        let w = rest-walk lines (suc order) (getD counts order 0) (inr (omega arith)) l (m .1) in
-        (rw (e, ne-eqb order (length counts) (omega arith)) (w .0), rw (e, ne-eqb order (length counts) (omega arith), drop-cons counts order 0 l) (w .1)))
+      let l = leb-false (length counts) order f in
+      let m = shaped-mark counts order line lines l h in
+      let e = eq-eqb (length line) 1 (mark-one (gramsMark (suc order)) line (m .0)) in
+      let w = rest-walk lines (suc order) (getD counts order 0) (inr (omega arith)) l (m .1) in
+      (rw (e, ne-eqb order (length counts) (omega arith)) (w .0), rw (e, ne-eqb order (length counts) (omega arith), drop-cons counts order 0 l) (w .1)))
   rest-walk (line ∷ lines) order (suc left) o k h =
       let g = shaped-gram counts order line lines left h in
       let at : 1 ≤ order = ⊎-elim (λ z. absurd (omega arith)) (λ p. p) o in

@@ -1,0 +1,4 @@
+pub mod Ngrams
+pub mod Spelled
+pub mod Longer
+pub mod Scoring

@@ -1,0 +1,69 @@
+-- A word of the word list has a number, and no other word has it.
+use Prim.Native.Nat.{ℕ, zero, suc, _+_, _-_, _≤_, _<_}
+use mathlib.Core.Path.{_≡_, refl, sym, ap, _∙_}
+use mathlib.Core.Bool.{Bool, true, false, _&&_, _||_, cond}
+use mathlib.Core.List.{List, [], _∷_, map}
+use mathlib.Core.Logic.{_⊎_, inl, inr, ⊎-elim}
+use native.Mathlib.Omega.{arith}
+use borrow.Author.Tests.{leb-true, eq-eqb, eqb-true}
+use lib.Dec.{eqb, leb}
+use Rattle.laws.specs.Lists.{all, eqList}
+use Rattle.laws.proofs.Lists.{eqList-is, eqList-refl}
+use Rattle.laws.proofs.Tests.{both, both-of, clash, by-test, one-of, same-test}
+use Rattle.arpa.specs.Lines.{eqBytes}
+use Rattle.arpa.specs.Words.{startWord, spellings, firstFrom, spelled, wordNumber, isKnown}
+
+pub bytes-same : (a b : List ℕ) → eqBytes a b ≡ true → a ≡ b
+bytes-same a b h = eqList-is eqb eqb-true a b h
+
+pub bytes-refl : (a : List ℕ) → eqBytes a a ≡ true
+bytes-refl a = eqList-refl eqb (λ x. eq-eqb x x refl) a
+
+-- a word that is found from line k on has k or a higher number
+first-bound : (k : ℕ) (word : List ℕ) (lines : List (List ℕ)) → (firstFrom k word lines ≡ 0) ⊎ (k ≤ firstFrom k word lines)
+unfolding firstFrom
+first-bound k word [] = inl refl
+first-bound k word (line ∷ lines) =
+    by-test (eqBytes line word)
+    (λ t. inr (rw t (omega arith)))
+    (λ f. ⊎-elim (λ (z : firstFrom (suc k) word lines ≡ 0). inl (rw (f, z))) (λ (l : suc k ≤ firstFrom (suc k) word lines). inr (rw f (omega arith))) (first-bound (suc k) word lines))
+
+-- two words that are found at one line are the same
+first-same : (k : ℕ) (a b : List ℕ) (lines : List (List ℕ)) → 1 ≤ k → firstFrom k a lines ≡ firstFrom k b lines → 1 ≤ firstFrom k a lines → a ≡ b
+unfolding firstFrom
+first-same k a b [] l e h = absurd (omega arith)
+first-same k a b (line ∷ lines) l e h =
+    by-test (eqBytes line a)
+    (λ t. by-test (eqBytes line b)
+    (λ s. sym (bytes-same line a t) ∙ bytes-same line b s)
+    (λ f. let z = rw (t, f) at e in ⊎-elim (λ (n : firstFrom (suc k) b lines ≡ 0). absurd (omega arith)) (λ (n : suc k ≤ firstFrom (suc k) b lines). absurd (omega arith)) (first-bound (suc k) b lines)))
+    (λ f. by-test (eqBytes line b)
+    (λ s. let z = rw (f, s) at e in ⊎-elim (λ (n : firstFrom (suc k) a lines ≡ 0). absurd (omega arith)) (λ (n : suc k ≤ firstFrom (suc k) a lines). absurd (omega arith)) (first-bound (suc k) a lines))
+    (λ g. first-same (suc k) a b lines (omega arith) (rw (f, g) at e) (rw f at h)))
+
+-- no two words that are known have one number
+pub number-same : (list a b : List ℕ) → isKnown list a ≡ true → isKnown list b ≡ true → wordNumber list a ≡ wordNumber list b → a ≡ b
+unfolding wordNumber isKnown spelled
+number-same list a b p q e =
+    by-test (eqBytes a startWord)
+    (λ s. by-test (eqBytes b startWord)
+    (λ t. bytes-same a startWord s ∙ sym (bytes-same b startWord t))
+    (λ t. let z = rw (s, t) at e in let k = leb-true 1 (spelled list b) (rw t at q) in absurd (omega arith)))
+    (λ s. by-test (eqBytes b startWord)
+    (λ t. let z = rw (s, t) at e in let k = leb-true 1 (spelled list a) (rw s at p) in absurd (omega arith))
+    (λ t. first-same 1 a b (spellings list) (omega arith) (rw (s, t) at e) (leb-true 1 (spelled list a) (rw s at p))))
+
+-- so it is of rows of words
+pub numbers-same : (list : List ℕ) (xs ys : List (List ℕ)) → all (isKnown list) xs ≡ true → all (isKnown list) ys ≡ true
+    → eqList eqb (map (wordNumber list) xs) (map (wordNumber list) ys) ≡ eqList eqBytes xs ys
+numbers-same list [] [] p q = refl
+numbers-same list [] (y ∷ ys) p q = refl
+numbers-same list (x ∷ xs) [] p q = refl
+numbers-same list (x ∷ xs) (y ∷ ys) p q =
+    let k = both (isKnown list x) (all (isKnown list) xs) p in
+    let l = both (isKnown list y) (all (isKnown list) ys) q in
+    let one : eqb (wordNumber list x) (wordNumber list y) ≡ eqBytes x y
+    = same-test
+    (λ t. rw (number-same list x y (k .0) (l .0) (eqb-true (wordNumber list x) (wordNumber list y) t)) (bytes-refl y))
+    (λ t. eq-eqb (wordNumber list x) (wordNumber list y) (ap (wordNumber list) (bytes-same x y t))) in
+    rw (one, numbers-same list xs ys (k .1) (l .1)) refl
