@@ -23,7 +23,7 @@ pub struct Piece {
 }
 
 // A digit 0 to 9.
-fn is_digit(b: u8) -> bool
+pub fn is_digit(b: u8) -> bool
     ensures { λ r. ⌜ r ≡ isDigit b ⌝ }
 {
     48 <= b && b <= 57
@@ -66,7 +66,7 @@ fn read_digits(text: &[u8], at: usize, v: u32) -> Numeral
 }
 
 // The number of digits that make v, after a minus or not.
-fn signed(minus: bool, v: u32) -> i32
+pub fn signed(minus: bool, v: u32) -> i32
     requires { ⌜ v ≤ 9999999 ⌝ }
     ensures { λ r. ⌜ r ≡ signed minus v ⌝ }
 {
