@@ -8,7 +8,8 @@ use lib.Dec.{eqb, leb}
 use lib.ListN.{length, take, drop}
 use Rattle.laws.specs.Lists.{all, count}
 use Rattle.arpa.specs.Lines.{filledLines}
-use Rattle.arpa.specs.File.{Ngram, highestOrder, countsFrom, isGramLine, areSections, ngramOf, ngramsFrom, isUnknown}
+use Rattle.outline.specs.declared.counts.Counted.{Counted}
+use Rattle.arpa.specs.File.{Ngram, highestOrder, countsFrom, bodyOf, isGramLine, areSections, ngramOf, ngramsFrom, isUnknown}
 
 -- ════ the counts
 
@@ -33,6 +34,19 @@ pub record Counting (body lines : List (List (List ℕ))) (counts : List ℕ) (n
   pub are : AreSaturated stated (take n counts)
   pub from : countsFrom highestOrder 1 body ≡ stated ++ countsFrom (highestOrder - n) (n + 1) lines
   pub rest : lines ≡ drop n body
+
+-- the place behind the first `\data\`
+pub record DataFound (text : List ℕ) (at : ℕ) : Type 0 where
+  pub within : at ≤ length text
+  pub body : filledLines (drop at text) ≡ bodyOf text
+
+-- the count lines that stand from `at` on were read
+pub record CountsRead (text : List ℕ) (at : ℕ) (counts : List ℕ) (r : Counted) : Type 0 where
+  pub most : r .top ≤ highestOrder
+  pub long : length counts ≡ highestOrder
+  pub within : r .at ≤ length text
+  pub are : AreSaturated (countsFrom highestOrder 1 (filledLines (drop at text))) (take (r .top) counts)
+  pub rest : filledLines (drop (r .at) text) ≡ drop (r .top) (filledLines (drop at text))
 
 -- ════ sections that are not yet judged: `order` is that of the section begun last, 0 before the first, `left` how many of its lines are still to come
 

@@ -1,2 +1,3 @@
-// The fields of a text: bytes that are the same, and lines one at a time.
+// A text of lines and fields, as an ARPA text and a word list are.
 pub mod same;
+pub mod scan;
