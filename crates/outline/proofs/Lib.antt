@@ -1,3 +1,3 @@
-pub mod Sections
-pub mod Counts
+pub mod Rest
+pub mod Saturated
 pub mod Few

@@ -1,3 +1,3 @@
 pub mod Fields
 pub mod Outline
-pub mod Sections
+pub mod Walk

@@ -9,7 +9,7 @@ ghost use lib.ListN.{length, drop};
 ghost use Rattle.arpa.specs.Lines.{filledLines};
 ghost use Rattle.outline.specs.Fields.{FieldsAt, FieldsRead};
 ghost use Rattle.outline.specs.Outline.{restIs};
-ghost use Rattle.outline.specs.Sections.{Proper, AdvancedAs, isEnded, OutlineIs};
+ghost use Rattle.outline.specs.Walk.{Proper, AdvancedAs, isEnded, OutlineIs};
 
 // Where a walk over the sections' lines stands: the order of the section begun last, 0 before the first, how many of its lines are still to come, and
 // whether `<unk>` alone was listed, 0 or 1.
