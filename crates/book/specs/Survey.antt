@@ -65,9 +65,9 @@ isFew tally k = leb (getD tally k 0) (mostOf k)
 abbrev pub areAllFew : List ℕ → Bool
 areAllFew tally = all (isFew tally) (numbersFrom 2 (length kinds - 1))
 
--- how many lines there may be before a count could pass its type: 2 ^ 62
+-- how many lines there may be before three counts added up could pass their type: less than a third of 2 ^ 64
 abbrev pub linesMost : ℕ
-linesMost = 4_611_686_018_427_387_904
+linesMost = 6_000_000_000_000_000_000
 
 -- ════ the questions
 

@@ -5,7 +5,7 @@ use lib.Dec.{leb}
 use lib.IntN.{ℤ}
 use lib.Signed.{leZ}
 use Rattle.meaning.specs.declared.Refusal.{Refusal}
-use Rattle.meaning.specs.declared.Refusal.the-variants.{BookText, LineFields, BLine, NumberRange, LineCount, RepeatedTriple, ListTooShort, DirectionText, WordCount, WordRange, Width, StepsOrWordsTooShort, StoreTooSmall, NoDerivation, LastSetEmpty, DoesNotFit, CoveredTwice, JumpTooLong, Uncovered, RepeatedShorter, StoredCounts, AbsentEntry}
+use Rattle.meaning.specs.declared.Refusal.the-variants.{BookText, LineFields, BLine, NumberRange, LineCount, RepeatedTriple, ListTooShort, DirectionText, WordCount, WordRange, Width, StepsOrWordsTooShort, StoreTooSmall, NoDerivation, LastSetEmpty, DoesNotFit, CoveredTwice, JumpTooLong, Uncovered, RepeatedShorter, StoredCounts, AbsentEntry, ArpaText, UnlistedWord, ValueRange}
 
 -- "No: k": the refusal k where the test fails, 0 (no refusal) where it passes
 infix 25 _unless_
@@ -58,3 +58,6 @@ number Uncovered = 19
 number RepeatedShorter = 20
 number StoredCounts = 21
 number AbsentEntry = 22
+number ArpaText = 23
+number UnlistedWord = 24
+number ValueRange = 25

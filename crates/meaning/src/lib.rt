@@ -74,6 +74,9 @@ pub enum Refusal {
     RepeatedShorter,
     StoredCounts,
     AbsentEntry,
+    ArpaText,
+    UnlistedWord,
+    ValueRange,
 }
 
 // The refusal's number in the papers.
@@ -103,6 +106,9 @@ pub fn number_of(refusal: Refusal) -> usize
         Refusal::RepeatedShorter => 20,
         Refusal::StoredCounts => 21,
         Refusal::AbsentEntry => 22,
+        Refusal::ArpaText => 23,
+        Refusal::UnlistedWord => 24,
+        Refusal::ValueRange => 25,
     }
 }
 

@@ -215,9 +215,11 @@ few-after (b ∷ t) = by (sort b) (few-after t)
     by (Sort.blank e f) ih = rw (e, f) (omega arith)
     by (Sort.other e f) ih = rw (e, f) (omega (arith, rest))
 
+-- a line that is not blank has a byte of its own
 pub filled-few : (t : List ℕ) → length (filledLines t) ≤ length t
 filled-few t = rw (filled-start t) (few-after t)
 
+-- what all pass those that are kept pass
 kept-pass : {A : Type 0} (test kept : A → Bool) (xs : List A) → all test xs ≡ true → all test (keep kept xs) ≡ true
 kept-pass test kept xs h = mem-all test (keep kept xs) (λ x m. all-mem test xs h x (keep-mem kept xs m .0))
 

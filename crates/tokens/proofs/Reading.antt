@@ -69,14 +69,15 @@ module _ {text : List ℕ} {at : ℕ} {old places : List ℕ} {count next : ℕ}
         let size : end - next ≡ n = omega arith in
         let piece = take (end - next) (drop next text) in
         let z : take n (drop next text) ≡ piece = ap (λ (k : ℕ). take k (drop next text)) (sym size) in
+        let more = r .fields ++ (piece ∷ []) in
         record {
-          fields = r .fields ++ (piece ∷ []);
+          fields = more;
           rest =
-              ap (λ (k : ℕ). filledAfter (r .fields ++ (piece ∷ [])) (drop k text)) f
-              ∙ ap (filledAfter (r .fields ++ (piece ∷ []))) (sym (drop-drop m end text))
-              ∙ filled-blanks (r .fields ++ (piece ∷ [])) (drop end text)
-              ∙ ap (λ (k : ℕ). filledAfter (r .fields ++ (piece ∷ [])) (drop k text)) e
-              ∙ ap (filledAfter (r .fields ++ (piece ∷ []))) (sym (drop-drop n next text))
+              ap (λ (k : ℕ). filledAfter more (drop k text)) f
+              ∙ ap (filledAfter more) (sym (drop-drop m end text))
+              ∙ filled-blanks more (drop end text)
+              ∙ ap (λ (k : ℕ). filledAfter more (drop k text)) e
+              ∙ ap (filledAfter more) (sym (drop-drop n next text))
               ∙ ap (λ (p : List ℕ). filledAfter (r .fields ++ (p ∷ [])) (drop n (drop next text))) (sym z)
               ∙ sym (filled-field (r .fields) (drop next text) some)
               ∙ r .rest;

@@ -1,4 +1,4 @@
--- A text read a line at a time: the fields of the next line that is not blank, by the places where they stand.
+-- A text read a line at a time: the fields of the next line that is not blank ("blank lines .. are passed over"), by the places where they stand.
 use Prim.Native.Nat.{ℕ, suc, _+_, _*_, _-_, _≤_, _<_}
 use mathlib.Core.Path.{_≡_}
 use mathlib.Core.Bool.{Bool, not, cond, _||_}
@@ -41,7 +41,7 @@ pub record Noted (text places : List ℕ) (fields : List (List ℕ)) : Type 0 wh
   pub part : (k : ℕ) → k < 5 → k < length fields → FieldNoted text places k
   pub is : (k : ℕ) → k < 5 → k < length fields → fieldAt text places k ≡ getD fields k []
 
--- the next line from `at` on that is not blank was read, where there is one
+-- the next line from `at` on that is not blank was read, where there is one: it has these fields, and the further lines stand from `next` on
 pub record LineRead (text : List ℕ) (at : ℕ) (places : List ℕ) (line : Line) : Type 0 where
   pub fields : List (List ℕ)
   pub long : length fields ≡ line .count

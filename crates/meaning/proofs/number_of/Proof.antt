@@ -71,6 +71,15 @@ enum-told-21 c = search needs
 enum-told-22 : tie.Need-enum-told-22
 enum-told-22 c = search needs
 
+enum-told-23 : tie.Need-enum-told-23
+enum-told-23 c = search needs
+
+enum-told-24 : tie.Need-enum-told-24
+enum-told-24 c = search needs
+
+enum-told-25 : tie.Need-enum-told-25
+enum-told-25 c = search needs
+
 returns : tie.Need-returns
 returns c = sym (ap number (c .enum-told .given .1))
 
@@ -137,6 +146,15 @@ returns-21 c = sym (ap number (c .enum-told21 .given .1))
 returns-22 : tie.Need-returns-22
 returns-22 c = sym (ap number (c .enum-told22 .given .1))
 
+returns-23 : tie.Need-returns-23
+returns-23 c = sym (ap number (c .enum-told23 .given .1))
+
+returns-24 : tie.Need-returns-24
+returns-24 c = sym (ap number (c .enum-told24 .given .1))
+
+returns-25 : tie.Need-returns-25
+returns-25 c = sym (ap number (c .enum-told25 .given .1))
+
 pub number-of-spec : {M : Type 1} → statement M
 number-of-spec =
     tie.close
@@ -163,6 +181,9 @@ number-of-spec =
     enum-told-20
     enum-told-21
     enum-told-22
+    enum-told-23
+    enum-told-24
+    enum-told-25
     returns
     returns-2
     returns-3
@@ -184,4 +205,7 @@ number-of-spec =
     returns-19
     returns-20
     returns-21
-    returns-22)
+    returns-22
+    returns-23
+    returns-24
+    returns-25)
