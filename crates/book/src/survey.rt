@@ -31,7 +31,7 @@ pub fn fresh() -> Survey
 }
 
 // Both of two tests that were made already.
-fn and_also(a: bool, b: bool) -> bool
+pub fn and_also(a: bool, b: bool) -> bool
     ensures { λ r. ⌜ r ≡ a && b ⌝ }
 {
     if a { b } else { false }

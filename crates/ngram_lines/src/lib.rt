@@ -1,5 +1,6 @@
 // The line of an n-gram of an ARPA text, and what becomes of it: it is passed over, it is `<unk>` alone, or it becomes a U, D or T line. `count` is how many
 // fields it has, and `places` says where they stand.
+use book::survey::and_also;
 use tokens::same::same_bytes;
 use tokens::scan;
 ghost use mathlib.Core.Path.{_≡_};
