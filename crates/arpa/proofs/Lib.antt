@@ -2,3 +2,4 @@ pub mod Ngrams
 pub mod Spelled
 pub mod Longer
 pub mod Scoring
+pub mod Room

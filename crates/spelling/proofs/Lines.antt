@@ -1,48 +1,24 @@
 -- Lines one at a time: the first line of a text and what follows it.
-use Prim.Native.Nat.{ℕ, suc, _+_, _-_, _≤_, _<_}
+use Prim.Native.Nat.{ℕ, _+_, _-_, _≤_, _<_}
 use mathlib.Core.Path.{_≡_, refl, sym, ap, _∙_}
 use mathlib.Core.List.{List, [], _∷_}
 use native.Mathlib.Numerals.{add-one}
 use native.Mathlib.Omega.{arith}
 use native.Mathlib.Nat.{le-min, min-le-left, min-le-right, le-antisymm, le-trans}
 use lib.Dec.{eqb, ltb}
-use lib.ListN.{length, getD, take, drop, set, length-set, length-take, length-drop, drop-of-length-le}
+use lib.ListN.{length, getD, take, drop, set, length-set, length-take, length-drop}
 use lib.Seq.{drop-drop, getD-set-same, getD-set-other, getD-take, getD-drop}
-use borrow.Author.Tests.{eqb-true, eqb-false, ne-eqb, ltb-true, ltb-false}
-use Rattle.laws.proofs.Lists.{drop-next}
+use borrow.Author.Tests.{eqb-true, eqb-false, ltb-true, ltb-false}
 use Rattle.laws.proofs.Tests.{by-test}
+use Rattle.tokens.proofs.Runs.{run-inside}
 use Rattle.meaning.specs.Numerals.{newline, before, split}
 use Rattle.arpa.specs.Words.{spelledMost, spellings}
-use Rattle.spelling.specs.Lines.{lineSize, lineAt, startsSize, Starts, Lined}
+use Rattle.spelling.specs.Lines.{isInLine, lineSize, lineAt, startsSize, Stands, Starts, Lined}
 
--- ---- the size of the line that starts at i: one turn of a loop
-
-module _ (text : List ℕ) (i : ℕ) where
-  pub size-ended : i < length text → getD text i 0 ≡ newline → lineSize (drop i text) ≡ 0
-  unfolding lineSize
-  size-ended l e = rw (drop-next text i 0 l, e)
-
-  pub size-more : i < length text → (getD text i 0 ≡ newline → ⊥) → lineSize (drop i text) ≡ suc (lineSize (drop (i + 1) text))
-  unfolding lineSize
-  size-more l d = rw (drop-next text i 0 l, ne-eqb (getD text i 0) newline d)
-
-  pub size-end : length text ≤ i → lineSize (drop i text) ≡ 0
-  unfolding lineSize
-  size-end l = rw (drop-of-length-le text l)
-
--- ---- the first line of a text, which is all of it or is followed by byte 10
-
-size-within : (text : List ℕ) → lineSize text ≤ length text
-unfolding lineSize
-size-within [] = omega arith
-size-within (b ∷ text) = let ih = size-within text in by-test (eqb b newline) (λ t. rw t (omega arith)) (λ f. rw f (omega arith))
-
--- it ends in the text
-pub ends-within : (text : List ℕ) (at e : ℕ) → at ≤ length text → e ≡ at + lineSize (drop at text) → e ≤ length text
-ends-within text at e l q = omega (arith, size-within (drop at text), length-drop at text)
+-- ---- the first line of a text is all of it, or is followed by byte 10
 
 split-last : (text : List ℕ) → length text ≤ lineSize text → split newline text ≡ take (lineSize text) text ∷ []
-unfolding lineSize split
+unfolding split
 split-last [] h = refl
 split-last (b ∷ text) h =
     let ih = split-last text in
@@ -51,7 +27,7 @@ split-last (b ∷ text) h =
     (λ f. rw f (ap (before b) (ih (omega (arith, rw f at h)))))
 
 split-more : (text : List ℕ) → lineSize text < length text → split newline text ≡ take (lineSize text) text ∷ split newline (drop (lineSize text + 1) text)
-unfolding lineSize split
+unfolding split
 split-more [] h = absurd (omega arith)
 split-more (b ∷ text) h =
     let ih = split-more text in
@@ -101,45 +77,56 @@ module _ (list : List ℕ) where
 drop-rest : {A : Type 0} (i : ℕ) (xs : List A) (x : A) (rest : List A) → drop i xs ≡ x ∷ rest → (drop (i + 1) xs ≡ rest) × (i < length xs)
 drop-rest i xs x rest e = (sym (drop-drop 1 i xs) ∙ ap (drop 1) e, omega (arith, length-drop i xs, ap length e))
 
--- one line more
+-- one line more: line i, from `at` to e
 module _ {list starts : List ℕ} {at i : ℕ} (r : Read list starts at i) (few : i < spelledMost) (in-list : at ≤ length list) (e : ℕ) (ends : e ≡ at + lineSize (drop at list)) where
+  abbrev bytes : List ℕ
+  bytes = take (lineSize (drop at list)) (drop at list)
+
   abbrev noted : List ℕ
   noted = set starts (i + 1) (e + 1)
 
-  next-line : (rest : List (List ℕ)) → split newline (drop at list) ≡ take (lineSize (drop at list)) (drop at list) ∷ rest
-      → Starts list noted (i + 1) × (drop (i + 1) (split newline list) ≡ rest)
-  next-line rest s =
-      let d = drop-rest i (split newline list) (take (lineSize (drop at list)) (drop at list)) rest (r .more in-list ∙ s) in
-      let room = r .before .room in
-      let within = d .1 in (
-        record {
-          room = simp length-set (omega arith);
-          few = omega arith;
-          within = count-from list (i + 1) (omega arith) (omega arith);
-          lines = λ k l.
-              by-test (eqb k i)
-              (λ t. let q = eqb-true k i t in
-              rw q (rw (getD-set-same starts (i + 1) (e + 1) 0 (omega arith), getD-set-other starts (i + 1) i (e + 1) 0 (omega arith), r .here)
-              (record { after = omega arith; inside = omega (arith, ends-within list at e in-list ends); bytes = (let z : (e + 1) - 1 - at ≡ lineSize (drop at list) = omega arith in rw z (sym (line-is list i _ rest few (r .more in-list ∙ s)))) })))
-              (λ f. let lt : k < i = omega (arith, eqb-false k i f) in
-              rw (getD-set-other starts (i + 1) (k + 1) (e + 1) 0 (omega arith), getD-set-other starts (i + 1) k (e + 1) 0 (omega arith)) (r .before .lines k lt));
-        },
-        d .0,
-      )
+  noted-at : (k : ℕ) → k < i + 1 → getD noted k 0 ≡ getD starts k 0
+  noted-at k l = getD-set-other starts (i + 1) k (e + 1) 0 (omega arith)
 
-  read-of : Starts list noted (i + 1) → (e + 1 ≤ length list → drop (i + 1) (split newline list) ≡ split newline (drop (e + 1) list)) → (length list < e + 1 → drop (i + 1) (split newline list) ≡ []) → Read list noted (e + 1) (i + 1)
-  read-of s m n = let room = r .before .room in record { before = s; here = getD-set-same starts (i + 1) (e + 1) 0 (omega arith); more = m; none = n }
+  noted-end : getD noted (i + 1) 0 ≡ e + 1
+  noted-end = let room = r .before .room in getD-set-same starts (i + 1) (e + 1) 0 (omega arith)
+
+  line-stands : (rest : List (List ℕ)) → drop i (split newline list) ≡ bytes ∷ rest → Stands list at (e + 1) (lineAt list i)
+  line-stands rest s =
+      let z : (e + 1) - 1 - at ≡ lineSize (drop at list) = omega arith in
+      record { after = omega arith; inside = omega (arith, run-inside isInLine list at in-list); bytes = rw z (sym (line-is list i bytes rest few s)) }
+
+  starts-more : (rest : List (List ℕ)) → drop i (split newline list) ≡ bytes ∷ rest → i < length (split newline list) → Starts list noted (i + 1)
+  starts-more rest s within =
+      let room = r .before .room in
+      record {
+        room = simp length-set (omega arith);
+        few = omega arith;
+        within = count-from list (i + 1) (omega arith) (omega arith);
+        lines = λ k l.
+            by-test (eqb k i)
+            (λ t. rw (eqb-true k i t, noted-end, noted-at i (omega arith), r .here) (line-stands rest s))
+            (λ f. let lt : k < i = omega (arith, eqb-false k i f) in
+            rw (noted-at (k + 1) (omega arith), noted-at k (omega arith)) (r .before .lines k lt));
+      }
+
+  -- what is left behind it
+  read-of : (rest : List (List ℕ)) → split newline (drop at list) ≡ bytes ∷ rest
+      → (e + 1 ≤ length list → rest ≡ split newline (drop (e + 1) list)) → (length list < e + 1 → rest ≡ []) → Read list noted (e + 1) (i + 1)
+  read-of rest s m n =
+      let d = drop-rest i (split newline list) bytes rest (r .more in-list ∙ s) in
+      record { before = starts-more rest (r .more in-list ∙ s) (d .1); here = noted-end; more = λ l. d .0 ∙ m l; none = λ l. d .0 ∙ n l }
 
   pub read-more : Read list noted (e + 1) (i + 1)
   read-more =
-      let w = size-within (drop at list) in
       let d = length-drop at list in
-      by-test (ltb (lineSize (drop at list)) (length (drop at list)))
-      (λ t. let n = next-line (split newline (drop (lineSize (drop at list) + 1) (drop at list))) (split-more (drop at list) (ltb-true _ _ t)) in
       let z : at + (lineSize (drop at list) + 1) ≡ e + 1 = omega arith in
-      read-of (n .0) (λ l. n .1 ∙ ap (split newline) (drop-drop (lineSize (drop at list) + 1) at list ∙ ap (λ (k : ℕ). drop k list) z)) (λ l. absurd (omega (arith, ltb-true (lineSize (drop at list)) (length (drop at list)) t))))
-      (λ f. let n = next-line [] (split-last (drop at list) (ltb-false _ _ f)) in
-      read-of (n .0) (λ l. absurd (omega (arith, ltb-false (lineSize (drop at list)) (length (drop at list)) f))) (λ l. n .1))
+      by-test (ltb (lineSize (drop at list)) (length (drop at list)))
+      (λ t. let l = ltb-true (lineSize (drop at list)) (length (drop at list)) t in
+      read-of (split newline (drop (lineSize (drop at list) + 1) (drop at list))) (split-more (drop at list) l)
+      (λ _. ap (split newline) (drop-drop (lineSize (drop at list) + 1) at list ∙ ap (λ (k : ℕ). drop k list) z)) (λ g. absurd (omega arith)))
+      (λ f. let l = ltb-false (lineSize (drop at list)) (length (drop at list)) f in
+      read-of [] (split-last (drop at list) l) (λ g. absurd (omega arith)) (λ _. refl))
 
 -- no line more: none is left, or no more count
 module _ {list starts : List ℕ} {at i : ℕ} (r : Read list starts at i) where

@@ -1,17 +1,21 @@
 -- The lines of the word list by places: where each starts.
-use Prim.Native.Nat.{ℕ, suc, _+_, _-_, _≤_, _<_}
+use Prim.Native.Nat.{ℕ, _+_, _-_, _≤_, _<_}
 use mathlib.Core.Path.{_≡_}
-use mathlib.Core.Bool.{cond}
-use mathlib.Core.List.{List, [], _∷_}
+use mathlib.Core.Bool.{Bool, not}
+use mathlib.Core.List.{List, []}
 use lib.Dec.{eqb}
 use lib.ListN.{length, getD, take, drop}
 use Rattle.meaning.specs.Numerals.{newline}
+use Rattle.tokens.specs.Scan.{runLength}
 use Rattle.arpa.specs.Words.{spelledMost, spellings}
 
+-- a byte of a line
+abbrev pub isInLine : ℕ → Bool
+isInLine b = not (eqb b newline)
+
 -- how many bytes stand before the first byte 10, or the text's end
-unfoldable pub lineSize : List ℕ → ℕ
-lineSize [] = 0
-lineSize (b ∷ text) = cond (eqb b newline) 0 (suc (lineSize text))
+abbrev pub lineSize : List ℕ → ℕ
+lineSize text = runLength isInLine text
 
 -- line k of the word list, from 0 on
 unfoldable pub lineAt : List ℕ → ℕ → List ℕ

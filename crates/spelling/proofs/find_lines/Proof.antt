@@ -6,7 +6,9 @@ use lib.ListN.{length, length-set}
 use borrow.Author.Needs.{needs}
 use borrow.Author.Tests.{leb-true, leb-false}
 use Rattle.arpa.specs.Words.{spelledMost}
-use Rattle.spelling.proofs.Lines.{Read, read-start, read-more, read-all, read-most, ends-within}
+use Rattle.spelling.proofs.Lines.{Read, read-start, read-more, read-all, read-most}
+use Rattle.tokens.proofs.Runs.{run-inside}
+use Rattle.spelling.specs.Lines.{isInLine}
 use Rattle.spelling.proofs.find_lines.Statement.{statement}
 use Rattle.spelling.proofs.find_lines.Tie as tie
 
@@ -26,7 +28,9 @@ line-end-requires : tie.Need-line-end-requires Inv-loop μ-loop
 line-end-requires c κs = search needs
 
 add-at : tie.Need-add-at Inv-loop μ-loop
-add-at c = omega (arith, ends-within (c .before .before .before .before .before .before .args .list .now) (c .before .before .before .loop .at) (c .line-end .result) (leb-true _ _ (c .before .if1 .taken)) (c .line-end .ensures))
+add-at c =
+    let s = c .before .before .before .before .before .before in
+    omega (arith, c .line-end .ensures, run-inside isInLine (s .args .list .now) (c .before .before .before .loop .at) (leb-true _ _ (c .before .if1 .taken)))
 
 add-i : tie.Need-add-i Inv-loop μ-loop
 add-i c = search needs
@@ -43,7 +47,8 @@ loop-less c = search needs
 loop-again : tie.Need-loop-again Inv-loop μ-loop
 loop-again c =
     let l = c .before .before .before .loop in
-    (read-more (l .inv .0) (c .before .before .loop-test .taken) (leb-true _ _ (c .before .if1 .taken)) (c .line-end .result) (c .line-end .ensures), length-set (l .starts) (l .i + 1) (c .line-end .result + 1) ∙ l .inv .1)
+    let r = read-more (l .inv .0) (c .before .before .loop-test .taken) (leb-true _ _ (c .before .if1 .taken)) (c .line-end .result) (c .line-end .ensures) in
+    (r, length-set (l .starts) (l .i + 1) (c .line-end .result + 1) ∙ l .inv .1)
 
 same-length : tie.Need-same-length Inv-loop μ-loop
 same-length c = c .before .before .loop .inv .1 ∙ simp length-set

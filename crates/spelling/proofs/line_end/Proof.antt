@@ -1,11 +1,13 @@
 -- The size of the line that is left, from i on, is what is left of its size from `at` on. The measure is what is left of the text.
 use Prim.Native.Nat.{_+_, _≤_, _-_}
-use mathlib.Core.Path.{_≡_, refl}
+use mathlib.Core.Path.{_≡_, refl, sym, ap, _∙_}
+use mathlib.Core.Bool.{not}
 use native.Mathlib.Omega.{arith}
 use lib.ListN.{length, drop}
 use borrow.Author.Needs.{needs}
-use Rattle.spelling.specs.Lines.{lineSize}
-use Rattle.spelling.proofs.Lines.{size-ended, size-more, size-end}
+use borrow.Author.Tests.{eq-eqb, ne-eqb}
+use Rattle.tokens.proofs.Runs.{run-on, run-stop, run-end}
+use Rattle.spelling.specs.Lines.{isInLine, lineSize}
 use Rattle.spelling.proofs.line_end.Statement.{statement}
 use Rattle.spelling.proofs.line_end.Tie as tie
 
@@ -24,7 +26,7 @@ shared-slice-read-if1 c = search needs
 returns : tie.Need-returns Inv-loop μ-loop
 returns c =
     let l = c .before .before .before .loop in
-    omega (arith, l .inv .0, size-ended (c .before .before .before .before .args .text .now) (l .i) (c .before .before .loop-test .taken) (c .if1 .taken))
+    sym (run-stop isInLine (c .before .before .before .before .args .text .now) (l .i) (c .before .before .loop-test .taken) (ap not (eq-eqb _ _ (c .if1 .taken)))) ∙ l .inv .0
 
 add-i : tie.Need-add-i Inv-loop μ-loop
 add-i c = search needs
@@ -35,12 +37,12 @@ loop-less c = search needs
 loop-again : tie.Need-loop-again Inv-loop μ-loop
 loop-again c =
     let l = c .before .before .before .loop in
-    (omega (arith, l .inv .0, size-more (c .before .before .before .before .args .text .now) (l .i) (c .before .before .loop-test .taken) (c .if1 .left)), omega arith)
+    (run-on isInLine (c .before .before .before .before .args .text .now) (l .i) (c .before .before .loop-test .taken) (ap not (ne-eqb _ _ (c .if1 .left))) ∙ l .inv .0, omega arith)
 
 returns-2 : tie.Need-returns-2 Inv-loop μ-loop
 returns-2 c =
     let l = c .before .loop in
-    omega (arith, l .inv .0, size-end (c .before .before .args .text .now) (l .i) (c .loop-test .left))
+    sym (run-end isInLine (c .before .before .args .text .now) (l .i) (c .loop-test .left)) ∙ l .inv .0
 
 pub line-end-spec : {M : Type 1} → statement M
 line-end-spec =

@@ -1,3 +1,0 @@
-pub mod Rest
-pub mod Saturated
-pub mod Few
