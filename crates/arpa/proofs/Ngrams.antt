@@ -1,5 +1,5 @@
 -- The n-grams of a text that 23 passes have one to three words.
-use Prim.Native.Nat.{ℕ, zero, suc, _+_, _≤_}
+use Prim.Native.Nat.{ℕ, zero, suc, _+_, _≤_, _<_}
 use mathlib.Core.Path.{_≡_, refl, sym, ap, _∙_}
 use mathlib.Core.Bool.{Bool, true, false, _&&_, cond}
 use mathlib.Core.List.{List, [], _∷_, _++_, map, List·Memᴰ}
@@ -28,6 +28,14 @@ sized-ind Q one two three (y ∷ []) h = one y
 sized-ind Q one two three (w ∷ y ∷ []) h = two w y
 sized-ind Q one two three (v ∷ w ∷ y ∷ []) h = three v w y
 sized-ind Q one two three (t ∷ v ∷ w ∷ y ∷ words) h = absurd (omega (arith, between 1 3 (length (t ∷ v ∷ w ∷ y ∷ words)) h .1))
+
+-- a line of order n has more than n fields
+pub gram-long : (top n : ℕ) (line : List (List ℕ)) → isGramLine top n line ≡ true → n < length line
+unfolding isGramLine
+gram-long top n [] h = clash h refl
+gram-long top n (value ∷ fields) h =
+    let b = both (isValue value && leb n (length fields)) (isWeightPart (ltb n top) (drop n fields)) h .0 in
+    omega (arith, leb-true n (length fields) (both (isValue value) (leb n (length fields)) b .1))
 
 gram-sized : (top n : ℕ) (line : List (List ℕ)) → 1 ≤ n → n ≤ 3 → isGramLine top n line ≡ true → isSized (ngramOf n line) ≡ true
 unfolding isGramLine ngramOf

@@ -6,12 +6,15 @@ use mathlib.Core.List.{List, [], _∷_, map}
 use mathlib.Core.Logic.{_⊎_, inl, inr, ⊎-elim}
 use native.Mathlib.Omega.{arith}
 use borrow.Author.Tests.{leb-true, eq-eqb, eqb-true}
+use native.Mathlib.Nat.{min-le-left}
 use lib.Dec.{eqb, leb}
+use lib.ListN.{length, length-take}
 use Rattle.laws.specs.Lists.{all, eqList}
 use Rattle.laws.proofs.Lists.{eqList-is, eqList-refl}
 use Rattle.laws.proofs.Tests.{both, both-of, clash, by-test, one-of, same-test}
+use Rattle.meaning.specs.Numerals.{newline, split}
 use Rattle.arpa.specs.Lines.{eqBytes}
-use Rattle.arpa.specs.Words.{startWord, spellings, firstFrom, spelled, wordNumber, isKnown}
+use Rattle.arpa.specs.Words.{startWord, spelledMost, spellings, firstFrom, spelled, wordNumber, isKnown}
 
 pub bytes-same : (a b : List ℕ) → eqBytes a b ≡ true → a ≡ b
 bytes-same a b h = eqList-is eqb eqb-true a b h
@@ -40,6 +43,20 @@ first-same k a b (line ∷ lines) l e h =
     (λ f. by-test (eqBytes line b)
     (λ s. let z = rw (f, s) at e in ⊎-elim (λ (n : firstFrom (suc k) a lines ≡ 0). absurd (omega arith)) (λ (n : suc k ≤ firstFrom (suc k) a lines). absurd (omega arith)) (first-bound (suc k) a lines))
     (λ g. first-same (suc k) a b lines (omega arith) (rw (f, g) at e) (rw f at h)))
+
+-- "to 65,534": no word has a higher number
+first-most : (k : ℕ) (word : List ℕ) (lines : List (List ℕ)) → firstFrom (suc k) word lines ≤ k + length lines
+unfolding firstFrom
+first-most k word [] = omega arith
+first-most k word (line ∷ lines) = let ih = first-most (suc k) word lines in by-test (eqBytes line word) (λ t. rw t (omega arith)) (λ f. rw f (omega arith))
+
+pub spellings-few : (list : List ℕ) → length (spellings list) ≤ spelledMost
+unfolding spellings
+spellings-few list = rw length-take (min-le-left spelledMost (length (split newline list)))
+
+pub spelled-few : (list word : List ℕ) → spelled list word ≤ spelledMost
+unfolding spelled
+spelled-few list word = omega (arith, first-most 0 word (spellings list), spellings-few list)
 
 -- no two words that are known have one number
 pub number-same : (list a b : List ℕ) → isKnown list a ≡ true → isKnown list b ≡ true → wordNumber list a ≡ wordNumber list b → a ≡ b

@@ -4,7 +4,7 @@ use mathlib.Core.Path.{_≡_, refl, sym, ap, _∙_}
 use mathlib.Core.List.{List, [], _∷_}
 use native.Mathlib.Numerals.{add-one}
 use native.Mathlib.Omega.{arith}
-use native.Mathlib.Nat.{le-min, min-le-left, min-le-right, le-antisymm, le-trans}
+use native.Mathlib.Nat.{le-min, min-le-right, le-antisymm, le-trans}
 use lib.Dec.{eqb, ltb}
 use lib.ListN.{length, getD, take, drop, set, length-set, length-take, length-drop}
 use lib.Seq.{drop-drop, getD-set-same, getD-set-other, getD-take, getD-drop}
@@ -13,6 +13,7 @@ use Rattle.laws.proofs.Tests.{by-test}
 use Rattle.tokens.proofs.Runs.{run-inside}
 use Rattle.meaning.specs.Numerals.{newline, before, split}
 use Rattle.arpa.specs.Words.{spelledMost, spellings}
+use Rattle.arpa.proofs.Spelled.{spellings-few}
 use Rattle.spelling.specs.Lines.{isInLine, lineSize, lineAt, startsSize, Stands, Starts, Lined}
 
 -- ---- the first line of a text is all of it, or is followed by byte 10
@@ -65,10 +66,6 @@ module _ (list : List ℕ) where
   count-from : (n : ℕ) → n ≤ spelledMost → n ≤ length (split newline list) → n ≤ length (spellings list)
   unfolding spellings
   count-from n h k = rw length-take (le-min h k)
-
-  count-most : length (spellings list) ≤ spelledMost
-  unfolding spellings
-  count-most = rw length-take (min-le-left spelledMost (length (split newline list)))
 
   count-all : length (spellings list) ≤ length (split newline list)
   unfolding spellings
@@ -136,7 +133,7 @@ module _ {list starts : List ℕ} {at i : ℕ} (r : Read list starts at i) where
       record { lines = r .before; all = le-antisymm (r .before .within) (le-trans (count-all list) n) }
 
   pub read-most : spelledMost ≤ i → Lined list starts i
-  read-most h = record { lines = r .before; all = le-antisymm (r .before .within) (le-trans (count-most list) h) }
+  read-most h = record { lines = r .before; all = le-antisymm (r .before .within) (le-trans (spellings-few list) h) }
 
 -- fewer lines
 pub starts-less : {list starts : List ℕ} {n : ℕ} (m : ℕ) → m ≤ n → Starts list starts n → Starts list starts m
