@@ -12,7 +12,7 @@ ghost use Rattle.meaning.specs.Reply.{writtenOver};
 ghost use Rattle.spelling.specs.Index.{Spelling};
 ghost use Rattle.importing.specs.Walk.{Walking, ngramsAt};
 ghost use Rattle.importing.specs.Model.{areScoresIn, linesIn};
-ghost use Rattle.importing.specs.Write.{lineOfGram, FitsAt};
+ghost use Rattle.importing.specs.Write.{lineOfGram, FitsAt, PutAt};
 
 // Puts the line of an n-gram that becomes one, which stands at the row's front, over what stands in the list from `n` on; the place behind it.
 fn put_gram(out: &mut [i32], n: usize, gram: Gram, row: &[i32]) -> usize
