@@ -1,3 +1,5 @@
 pub mod Joined
 pub mod Written
 pub mod Walks
+pub mod Carrying
+pub mod Noting

@@ -21,6 +21,7 @@ use Rattle.tokens.specs.Fields.{FieldsAt}
 use Rattle.outline.specs.Outline.{walked, isWalk}
 use Rattle.ngram_lines.specs.declared.Gram.{Gram}
 use Rattle.ngram_lines.specs.Gram.{GramRead, GramIs}
+use Rattle.importing.specs.declared.walk.Cursor.{Cursor}
 use Rattle.importing.specs.Walk.{ngramsAt, MetIs}
 
 -- ---- of lines
@@ -82,6 +83,10 @@ module _ {text : List ℕ} {at : ℕ} {places : List ℕ} {line : Line} (r : Lin
 pub ngrams-over : (text : List ℕ) (top order at : ℕ) → length text ≤ at → walked top order (filledLines (drop at text)) ≡ []
 unfolding walked filledLines fieldsOf splitBlank split
 ngrams-over text top order at h = rw (drop-of-length-le text h) refl
+
+pub cursor-over : (text : List ℕ) (c : Cursor) → length text ≤ c .at → ngramsAt text c ≡ []
+unfolding ngramsAt
+cursor-over text c h = ngrams-over text (c .top) (c .order) (c .at) h
 
 -- ---- a walk from one place to another, in which sections began and no n-gram was met
 
