@@ -1,11 +1,10 @@
 -- Looking for `\data\`: at the text's end, and one line more.
 use Prim.Native.Nat.{ℕ, _≤_}
 use mathlib.Core.Path.{_≡_, refl, sym, ap, _∙_}
-use mathlib.Core.Bool.{true, false, cond}
-use mathlib.Core.List.{List, [], _∷_, map}
+use mathlib.Core.Bool.{true, false}
+use mathlib.Core.List.{List, [], _∷_}
 use native.Mathlib.Omega.{arith}
 use lib.ListN.{length, drop, drop-of-length-le}
-use Rattle.laws.specs.Lists.{keep}
 use Rattle.meaning.specs.Numerals.{split}
 use Rattle.arpa.specs.Lines.{splitBlank, fieldsOf, filledLines}
 use Rattle.arpa.specs.File.{dataMark, isMark, behindData, bodyOf}
@@ -13,10 +12,10 @@ use Rattle.tokens.specs.declared.scan.Line.{Line}
 use Rattle.tokens.specs.Scan.{LineRead}
 use Rattle.outline.specs.Outline.{DataFound}
 
--- at the text's end there is no further line
-pub filled-end : (text : List ℕ) {at : ℕ} → length text ≤ at → filledLines (drop at text) ≡ []
+-- behind the text's end there is no line
+pub none-behind : (text : List ℕ) {at : ℕ} → length text ≤ at → filledLines (drop at text) ≡ []
 unfolding filledLines fieldsOf splitBlank split
-filled-end text h = rw (drop-of-length-le text h) refl
+none-behind text h = rw (drop-of-length-le text h) refl
 
 -- no line before `at` is `\data\`
 pub record Looking (text : List ℕ) (at : ℕ) : Type 0 where

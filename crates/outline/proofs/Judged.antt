@@ -1,21 +1,20 @@
 -- Question 23 by what code finds: the counts as it reads them, and the lines that follow them.
-use Prim.Native.Nat.{ℕ, suc, _+_, _*_, _≤_, _<_}
+use Prim.Native.Nat.{ℕ, _+_, _≤_, _<_}
 use mathlib.Core.Path.{_≡_, refl, sym, ap, _∙_}
-use mathlib.Core.Bool.{Bool, true, false, _&&_}
-use mathlib.Core.List.{List, [], _∷_, _++_}
+use mathlib.Core.Bool.{Bool, true, false}
+use mathlib.Core.List.{List}
 use mathlib.Core.Logic.{inl}
 use native.Mathlib.Omega.{arith}
 use native.Mathlib.Nat.{zero-add}
-use borrow.Author.Tests.{le-leb, lt-leb}
 use lib.Dec.{leb, leb·zero}
 use lib.ListN.{length, take, drop, length-drop}
 use lib.Seq.{length-take-le}
+use borrow.Author.Tests.{le-leb, lt-leb}
 use Rattle.laws.specs.Lists.{count}
 use Rattle.laws.proofs.Tests.{both, by-test}
 use Rattle.arpa.specs.Lines.{filledLines}
-use Rattle.arpa.specs.File.{countsOf, bodyOf, sectionsOf, areSections, ngramsFrom, ngramsOf, isUnknown, isShaped, isArpa}
+use Rattle.arpa.specs.File.{countsOf, sectionsOf, areSections, ngramsOf, isUnknown, isShaped, isArpa}
 use Rattle.outline.specs.declared.counts.Counted.{Counted}
-use Rattle.outline.specs.declared.sections.Outline.{Outline}
 use Rattle.outline.specs.Outline.{linesBound, AreSaturated, DataFound, CountsRead, restShaped, restNgrams, restIs, walked, isWalk}
 use Rattle.outline.specs.Walk.{Outlines}
 use Rattle.arpa.proofs.Room.{filled-few}

@@ -1,8 +1,8 @@
-pub mod Steps
-pub mod Judged
-pub mod Tally
 pub mod Found
+pub mod Judged
 pub mod Noted
-pub mod Shapes
 pub mod Rest
 pub mod Saturated
+pub mod Shapes
+pub mod Steps
+pub mod Tally

@@ -1,21 +1,21 @@
 -- One line more of the sections: an n-gram's line, a mark, or the end; and the walk over sections that are as they should be.
 use Prim.Native.Nat.{ℕ, zero, suc, _+_, _≤_, _<_}
-use mathlib.Core.Path.{_≡_, refl, sym, ap, _∙_}
-use mathlib.Core.Bool.{Bool, true, false, _&&_, cond, and-false}
-use mathlib.Core.List.{List, [], _∷_, _++_, map}
-use mathlib.Core.Logic.{_⊎_, inl, inr, ⊎-elim}
+use mathlib.Core.Path.{_≡_, refl, sym, _∙_}
+use mathlib.Core.Bool.{true, false, _&&_, and-false}
+use mathlib.Core.List.{List, [], _∷_}
+use mathlib.Core.Logic.{_⊎_, inr, ⊎-elim}
 use native.Mathlib.Omega.{arith}
-use borrow.Author.Tests.{ne-eqb, eq-eqb, leb-true, leb-false, le-leb}
-use lib.Dec.{eqb, leb, ltb, leb·zero, leb·suc-zero, leb·suc-suc}
-use lib.ListN.{length, getD, take, drop, drop-of-length-le}
+use lib.Dec.{leb, ltb, leb·zero, leb·suc-zero, leb·suc-suc}
+use lib.ListN.{length, getD, drop, drop-of-length-le}
 use lib.Seq.{drop-cons}
+use borrow.Author.Tests.{ne-eqb, eq-eqb, leb-true, leb-false, le-leb}
 use Rattle.laws.specs.Bits.{one}
-use Rattle.laws.specs.Lists.{all, count}
+use Rattle.laws.specs.Lists.{count}
 use Rattle.laws.proofs.Lists.{count-cons}
 use Rattle.laws.proofs.Tests.{both, clash, by-test}
 use Rattle.arpa.specs.Values.{isValue}
-use Rattle.arpa.proofs.Ngrams.{gram-long}
 use Rattle.arpa.specs.File.{endMark, gramsMark, isMark, isWeightPart, isGramLine, areSections, ngramOf, ngramsFrom, isUnknown}
+use Rattle.arpa.proofs.Ngrams.{gram-long}
 use Rattle.outline.specs.Outline.{restShaped, restNgrams, restIs, walked, isWalk}
 
 -- ---- lines

@@ -1,19 +1,19 @@
 -- The counts as code reads them serve as those of the text; and one count line more.
 use Prim.Native.Nat.{ℕ, zero, suc, _+_, _-_, _≤_, _<_}
-use mathlib.Core.Path.{_≡_, refl, sym, ap, _∙_}
-use mathlib.Core.Bool.{Bool, true, false, _&&_, cond, and-false}
-use mathlib.Core.List.{List, [], _∷_, _++_, map, append-assoc, append-nil}
-use mathlib.Core.Logic.{_⊎_, inl, inr, ⊎-elim}
+use mathlib.Core.Path.{_≡_, refl, ap, _∙_}
+use mathlib.Core.Bool.{true, false, _&&_, and-false}
+use mathlib.Core.List.{List, [], _∷_, _++_, append-assoc, append-nil}
+use mathlib.Core.Logic.{inl, inr, ⊎-elim}
 use native.Mathlib.Omega.{arith}
 use native.Mathlib.Numerals.{add-one}
-use borrow.Author.Tests.{leb-true, lt-leb}
 use lib.Dec.{leb}
 use lib.ListN.{length, getD, take, drop, length-drop}
 use lib.Seq.{drop-drop}
+use borrow.Author.Tests.{leb-true, lt-leb}
 use Rattle.laws.specs.Lists.{all}
 use Rattle.laws.proofs.Lists.{take-next}
-use Rattle.laws.proofs.Tests.{both, clash, by-test}
-use Rattle.arpa.specs.File.{gramsMark, isMark, isCountLine, countOf, countsFrom, highestOrder, isGramLine, areSections, ngramOf, ngramsFrom}
+use Rattle.laws.proofs.Tests.{both, clash}
+use Rattle.arpa.specs.File.{gramsMark, isMark, isCountLine, countOf, countsFrom, highestOrder, isGramLine, areSections, ngramsFrom}
 use Rattle.thousandths.specs.Digits.{CountIs}
 use Rattle.outline.specs.Outline.{linesBound, Saturated, AreSaturated, Counting}
 
@@ -88,19 +88,12 @@ module _ (body : List (List (List ℕ))) (counts : List ℕ) where
       → AreSaturated (countsFrom highestOrder 1 body) (take n counts)
   counting-end n lines l e c = rw (c .from, e, append-nil) (c .are)
 
-module _ (most n : ℕ) where
-  pub counts-none : countsFrom most n [] ≡ []
-  unfolding countsFrom
-  counts-none = by most
-    where
-      by : (m : ℕ) → countsFrom m n [] ≡ []
-      by zero = refl
-      by (suc m) = refl
+pub counts-none : (most n : ℕ) → countsFrom most n [] ≡ []
+unfolding countsFrom
+counts-none zero n = refl
+counts-none (suc most) n = refl
 
-  pub counts-stop : (line : List (List ℕ)) (lines : List (List (List ℕ))) → isCountLine n line ≡ false → countsFrom most n (line ∷ lines) ≡ []
-  unfolding countsFrom
-  counts-stop line lines h = by most
-    where
-      by : (m : ℕ) → countsFrom m n (line ∷ lines) ≡ []
-      by zero = refl
-      by (suc m) = rw h
+pub counts-stop : (most n : ℕ) (line : List (List ℕ)) (lines : List (List (List ℕ))) → isCountLine n line ≡ false → countsFrom most n (line ∷ lines) ≡ []
+unfolding countsFrom
+counts-stop zero n line lines h = refl
+counts-stop (suc most) n line lines h = rw h

@@ -1,14 +1,13 @@
 -- The walk over the sections' lines: its start, one line more by what that line is, and its end.
 use Prim.Native.Nat.{ℕ, suc, _+_, _-_, _≤_, _<_}
 use mathlib.Core.Path.{_≡_, refl, sym, ap, _∙_}
-use mathlib.Core.Bool.{Bool, true, false, _&&_, and-false, and-true}
+use mathlib.Core.Bool.{Bool, true, false, and-false, and-true}
 use mathlib.Core.List.{List, [], _∷_}
 use mathlib.Core.Logic.{inl, inr, ⊎-elim}
 use native.Mathlib.Omega.{arith}
 use native.Mathlib.Numerals.{add-one}
-use borrow.Author.Tests.{le-leb, lt-leb}
-use lib.Dec.{leb}
 use lib.ListN.{length, getD, drop}
+use borrow.Author.Tests.{le-leb, lt-leb}
 use Rattle.laws.specs.Bits.{one}
 use Rattle.laws.specs.Lists.{count}
 use Rattle.arpa.specs.Lines.{filledLines}

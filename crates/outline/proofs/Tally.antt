@@ -1,13 +1,13 @@
 -- The count lines are read in turn: none yet, one more, and no more.
 use Prim.Native.Nat.{ℕ, _+_, _-_, _≤_, _<_}
-use mathlib.Core.Path.{_≡_, refl, sym, ap, _∙_}
+use mathlib.Core.Path.{_≡_, _∙_}
 use mathlib.Core.Bool.{true, false}
-use mathlib.Core.List.{List, [], _∷_}
+use mathlib.Core.List.{List, []}
 use native.Mathlib.Omega.{arith}
-use borrow.Author.Tests.{eqb-true, eqb-false}
 use lib.Dec.{eqb}
 use lib.ListN.{length, getD, set, drop, length-set}
 use lib.Seq.{getD-set-same, take-set-le}
+use borrow.Author.Tests.{eqb-true, eqb-false}
 use Rattle.laws.proofs.Tests.{by-test}
 use Rattle.meaning.specs.Numerals.{digitsValue}
 use Rattle.arpa.specs.Lines.{filledLines}
@@ -15,7 +15,7 @@ use Rattle.arpa.specs.File.{isCountLine, countsFrom, highestOrder}
 use Rattle.tokens.specs.declared.scan.Line.{Line}
 use Rattle.tokens.specs.Scan.{LineRead}
 use Rattle.outline.specs.Outline.{Saturated, Counting, CountsRead}
-use Rattle.outline.proofs.Shapes.{CountLine, count-line}
+use Rattle.outline.proofs.Shapes.{count-line}
 use Rattle.outline.proofs.Saturated.{counting-none, counting-more, counting-end, counts-none, counts-stop}
 
 -- n of them stand between `at` and `from`

@@ -6,7 +6,7 @@ use mathlib.Core.List.{List}
 use mathlib.Core.Logic.{_⊎_}
 use lib.ListN.{length, drop}
 use Rattle.arpa.specs.Lines.{filledLines}
-use Rattle.arpa.specs.File.{countsOf, ngramsOf, isArpa}
+use Rattle.arpa.specs.File.{ngramsOf, isArpa}
 use Rattle.outline.specs.Outline.{restIs, walked, isWalk}
 use Rattle.outline.specs.declared.sections.Cursor.{Cursor}
 use Rattle.outline.specs.declared.sections.Advanced.{Advanced}

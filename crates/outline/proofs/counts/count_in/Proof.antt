@@ -1,7 +1,7 @@
 -- The digits are what stands behind `N=`.
+use borrow.Author.Needs.{needs}
 use Rattle.laws.proofs.Lists.{part-rest}
 use Rattle.outline.proofs.Saturated.{count-saturated}
-use borrow.Author.Needs.{needs}
 use Rattle.outline.proofs.counts.count_in.Statement.{statement}
 use Rattle.outline.proofs.counts.count_in.Tie as tie
 

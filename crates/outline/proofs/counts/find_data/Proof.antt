@@ -3,9 +3,8 @@ use Prim.Native.Nat.{_-_}
 use mathlib.Core.Path.{_≡_, refl, sym, _∙_}
 use native.Mathlib.Omega.{arith}
 use lib.ListN.{length}
-use borrow.Author.Tests.{not-true}
 use Rattle.outline.proofs.Noted.{read-fields, fields-read}
-use Rattle.outline.proofs.Found.{filled-end, Looking, looking-start, looking-on, found-none, found-here}
+use Rattle.outline.proofs.Found.{none-behind, Looking, looking-start, looking-on, found-none, found-here}
 use Rattle.outline.proofs.counts.find_data.Statement.{statement}
 use Rattle.outline.proofs.counts.find_data.Tie as tie
 
@@ -28,7 +27,7 @@ returns : tie.Need-returns Inv-loop μ-loop
 returns c =
     let l = c .before .before .before .before .before .before .before .loop .inv in
     let text = c .before .before .before .before .before .before .before .before .before .before .args .text .now in
-    (found-none (l .1) (omega arith) (c .before .before .before .before .read-line .ensures .0 .none (c .if1 .taken)) (filled-end text {at = length text} (omega arith)), c .before .before .before .before .read-line .ensures .1 ∙ l .0)
+    (found-none (l .1) (omega arith) (c .before .before .before .before .read-line .ensures .0 .none (c .if1 .taken)) (none-behind text {at = length text} (omega arith)), c .before .before .before .before .read-line .ensures .1 ∙ l .0)
 
 slice-aggregate-is-mark : tie.Need-slice-aggregate-is-mark Inv-loop μ-loop
 slice-aggregate-is-mark c = refl
@@ -41,16 +40,18 @@ same-length-2 c = c .before .before .before .before .before .before .before .bef
 
 returns-2 : tie.Need-returns-2 Inv-loop μ-loop
 returns-2 c =
+    let i = c .before .before .before .before .before .before .before .before .before .before .before .loop .inv in
     let r = c .before .before .before .before .before .before .before .before .read-line .ensures .0 in
-    (found-here (c .before .before .before .before .before .before .before .before .before .before .before .loop .inv .1) r (omega arith) (sym (c .before .is-mark .ensures (r .fields) (read-fields r)) ∙ c .if2 .taken), c .before .before .before .before .before .before .before .before .read-line .ensures .1 ∙ c .before .before .before .before .before .before .before .before .before .before .before .loop .inv .0)
+    (found-here (i .1) r (omega arith) (sym (c .before .is-mark .ensures (r .fields) (read-fields r)) ∙ c .if2 .taken), c .before .before .before .before .before .before .before .before .read-line .ensures .1 ∙ i .0)
 
 loop-less : tie.Need-loop-less Inv-loop μ-loop
-loop-less c = let later = c .before .before .before .before .before .before .before .before .read-line .ensures .0 .later (omega arith) in omega (arith, c .before .before .before .before .before .before .before .before .read-line .ensures .0 .within)
+loop-less c = let r = c .before .before .before .before .before .before .before .before .read-line .ensures .0 in omega (arith, r .later (omega arith), r .within)
 
 loop-again : tie.Need-loop-again Inv-loop μ-loop
 loop-again c =
+    let i = c .before .before .before .before .before .before .before .before .before .before .before .loop .inv in
     let r = c .before .before .before .before .before .before .before .before .read-line .ensures .0 in
-    (c .before .before .before .before .before .before .before .before .read-line .ensures .1 ∙ c .before .before .before .before .before .before .before .before .before .before .before .loop .inv .0, looking-on (c .before .before .before .before .before .before .before .before .before .before .before .loop .inv .1) r (omega arith) (sym (c .before .is-mark .ensures (r .fields) (read-fields r)) ∙ c .if2 .left))
+    (c .before .before .before .before .before .before .before .before .read-line .ensures .1 ∙ i .0, looking-on (i .1) r (omega arith) (sym (c .before .is-mark .ensures (r .fields) (read-fields r)) ∙ c .if2 .left))
 
 same-length-3 : tie.Need-same-length-3 Inv-loop μ-loop
 same-length-3 c = c .before .loop .inv .0
@@ -58,7 +59,7 @@ same-length-3 c = c .before .loop .inv .0
 returns-3 : tie.Need-returns-3 Inv-loop μ-loop
 returns-3 c =
     let l = c .before .loop .inv in
-    let none = filled-end (c .before .before .before .before .args .text .now) (c .loop-test .left) in
+    let none = none-behind (c .before .before .before .before .args .text .now) (c .loop-test .left) in
     (found-none (l .1) (l .1 .within) none none, l .0)
 
 pub find-data-spec : {M : Type 1} → statement M

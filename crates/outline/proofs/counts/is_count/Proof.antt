@@ -2,9 +2,9 @@
 use mathlib.Core.Path.{sym, _∙_}
 use native.Mathlib.Omega.{arith}
 use borrow.Author.Tests.{eq-eqb, ne-eqb}
+use borrow.Author.Needs.{needs}
 use Rattle.laws.proofs.Lists.{part-rest}
 use Rattle.outline.proofs.Shapes.{no-count, count-is}
-use borrow.Author.Needs.{needs}
 use Rattle.outline.proofs.counts.is_count.Statement.{statement}
 use Rattle.outline.proofs.counts.is_count.Tie as tie
 

@@ -2,9 +2,9 @@
 use mathlib.Core.Path.{sym, _∙_}
 use native.Mathlib.Omega.{arith}
 use borrow.Author.Tests.{not-true, not-false}
+use borrow.Author.Needs.{needs}
 use Rattle.outline.proofs.Noted.{field-is, field-noted}
 use Rattle.outline.proofs.Shapes.{no-count-line, count-line-is}
-use borrow.Author.Needs.{needs}
 use Rattle.outline.proofs.counts.is_count_line.Statement.{statement}
 use Rattle.outline.proofs.counts.is_count_line.Tie as tie
 

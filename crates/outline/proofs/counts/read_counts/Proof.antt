@@ -1,10 +1,10 @@
 -- So many count lines were read (Tally), until a line is none or the highest order is reached.
-use Prim.Native.Nat.{_+_, _-_}
+use Prim.Native.Nat.{ℕ, _+_, _-_}
 use mathlib.Core.Path.{_≡_, refl, sym, _∙_}
-use native.Mathlib.Omega.{arith}
 use mathlib.Core.Bool.{true}
-use mathlib.Core.List.{[]}
-use lib.ListN.{length, getD, length-set}
+use mathlib.Core.List.{List, []}
+use native.Mathlib.Omega.{arith}
+use lib.ListN.{length, getD}
 use borrow.Author.Tests.{not-true, not-false}
 use Rattle.arpa.specs.File.{highestOrder, isCountLine}
 use Rattle.outline.proofs.Noted.{read-fields, fields-read, field-is, field-noted}
@@ -39,15 +39,19 @@ same-length-2 c = c .before .before .before .before .before .before .before .bef
 
 returns : tie.Need-returns Inv-loop μ-loop
 returns c =
+    let i = c .before .before .before .before .before .before .before .before .loop .inv in
     let r = c .before .before .before .before .before .read-line .ensures .0 in
-    (tally-stop (c .before .before .before .before .before .before .before .before .loop .inv .1) r (sym (c .before .is-count-line .ensures (r .fields) (read-fields r)) ∙ not-true _ (c .if1 .taken)), c .before .before .before .before .before .read-line .ensures .1 ∙ c .before .before .before .before .before .before .before .before .loop .inv .0)
+    (tally-stop (i .1) r (sym (c .before .is-count-line .ensures (r .fields) (read-fields r)) ∙ not-true _ (c .if1 .taken)), c .before .before .before .before .before .read-line .ensures .1 ∙ i .0)
 
--- the line that was read is a count line
-is-line : (c : tie.After-field-arg Inv-loop μ-loop) → isCountLine (c .before .before .before .before .before .before .before .before .before .loop .n + 1) (c .before .before .before .before .before .before .read-line .ensures .0 .fields) ≡ true
-is-line c = let r = c .before .before .before .before .before .before .read-line .ensures .0 in sym (c .before .before .is-count-line .ensures (r .fields) (read-fields r)) ∙ not-false _ (c .before .if1 .left)
+-- the fields of the line that was read, which is a count line
+abbrev fields : tie.After-field-arg Inv-loop μ-loop → List (List ℕ)
+fields c = c .before .before .before .before .before .before .read-line .ensures .0 .fields
 
-line-is : (c : tie.After-field-arg Inv-loop μ-loop) → CountLine (c .before .before .before .before .before .before .read-line .ensures .0 .fields) (getD (c .before .before .before .before .before .before .read-line .ensures .0 .fields) 1 [])
-line-is c = count-line (c .before .before .before .before .before .before .before .before .before .loop .n + 1) (c .before .before .before .before .before .before .read-line .ensures .0 .fields) (is-line c)
+is-line : (c : tie.After-field-arg Inv-loop μ-loop) → isCountLine (c .before .before .before .before .before .before .before .before .before .loop .n + 1) (fields c) ≡ true
+is-line c = sym (c .before .before .is-count-line .ensures (fields c) (read-fields (c .before .before .before .before .before .before .read-line .ensures .0))) ∙ not-false _ (c .before .if1 .left)
+
+line-is : (c : tie.After-field-arg Inv-loop μ-loop) → CountLine (fields c) (getD (fields c) 1 [])
+line-is c = count-line (c .before .before .before .before .before .before .before .before .before .loop .n + 1) (fields c) (is-line c)
 
 field-requires : tie.Need-field-requires Inv-loop μ-loop
 field-requires c κs =
@@ -55,7 +59,7 @@ field-requires c κs =
     field-noted 1 (omega arith) (omega (arith, r .long, line-is c .two)) (fields-read r)
 
 -- and this is its second field
-field-of : (c : tie.After-field Inv-loop μ-loop) → c .field .result .now ≡ getD (c .before .before .before .before .before .before .before .read-line .ensures .0 .fields) 1 []
+field-of : (c : tie.After-field Inv-loop μ-loop) → c .field .result .now ≡ getD (fields (c .before)) 1 []
 field-of c =
     let r = c .before .before .before .before .before .before .before .read-line .ensures .0 in
     c .field .ensures ∙ field-is 1 (omega arith) (omega (arith, r .long, line-is (c .before) .two)) (read-fields r)
@@ -79,8 +83,9 @@ loop-less c = omega arith
 
 loop-again : tie.Need-loop-again Inv-loop μ-loop
 loop-again c =
-    let r = c .before .before .before .before .before .before .before .before .read-line .ensures .0 in
-    (c .before .before .before .before .before .before .before .before .read-line .ensures .1 ∙ c .before .before .before .before .before .before .before .before .before .before .before .loop .inv .0, tally-more (c .before .before .before .before .before .before .before .before .before .before .before .loop .inv .1) r (omega arith) (is-line (c .before .before)) (rw (field-of (c .before)) at (c .count-in .ensures)))
+    let i = c .before .before .before .before .before .before .before .before .before .before .before .loop .inv in
+    let read = c .before .before .before .before .before .before .before .before .read-line .ensures in
+    (read .1 ∙ i .0, tally-more (i .1) (read .0) (omega arith) (is-line (c .before .before)) (rw (field-of (c .before)) at (c .count-in .ensures)))
 
 same-length-3 : tie.Need-same-length-3 Inv-loop μ-loop
 same-length-3 c = c .before .loop .inv .0

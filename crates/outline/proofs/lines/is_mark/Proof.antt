@@ -1,8 +1,7 @@
 -- A line that is a mark has one field, and that is the mark.
-use mathlib.Core.Path.{sym, ap, _∙_}
+use mathlib.Core.Path.{sym, _∙_}
 use native.Mathlib.Omega.{arith}
 use borrow.Author.Needs.{needs}
-use Rattle.arpa.specs.Lines.{eqBytes}
 use Rattle.outline.proofs.Noted.{field-is, field-noted}
 use Rattle.outline.proofs.Shapes.{no-mark, mark-is}
 use Rattle.outline.proofs.lines.is_mark.Statement.{statement}

@@ -1,9 +1,7 @@
 -- Only a line of order 1 has a single word, which is its field 1.
-use mathlib.Core.Path.{sym, ap, _∙_}
+use mathlib.Core.Path.{sym, _∙_}
 use native.Mathlib.Omega.{arith}
 use borrow.Author.Needs.{needs}
-use Rattle.arpa.specs.Lines.{eqBytes}
-use Rattle.arpa.specs.File.{ngramOf, isUnknown}
 use Rattle.outline.proofs.Noted.{field-is, field-noted}
 use Rattle.outline.proofs.Shapes.{not-unknown, unknown-is}
 use Rattle.outline.proofs.lines.is_unknown.Statement.{statement}

@@ -7,7 +7,7 @@ use Rattle.outline.proofs.sections.advance.Statement.{statement}
 use Rattle.outline.proofs.sections.advance.Tie as tie
 
 begin-section-requires : tie.Need-begin-section-requires
-begin-section-requires c κs = search needs
+begin-section-requires c κs = let st = c .before .before .before .before .before in (st .pre .0, (st .pre .1, omega arith))
 
 returns : tie.Need-returns
 returns c = search needs

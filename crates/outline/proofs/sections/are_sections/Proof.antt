@@ -1,20 +1,20 @@
 -- What is left of the sections decides at each line what the whole does (Walking); the measure is what is left of the text.
 use Prim.Native.Nat.{_-_}
-use mathlib.Core.Path.{_≡_, refl, sym, _∙_}
+use mathlib.Core.Path.{_≡_, refl, _∙_}
+use mathlib.Core.List.{[], _∷_}
 use native.Mathlib.Omega.{arith}
 use lib.ListN.{length, drop}
-use Rattle.arpa.specs.Lines.{filledLines}
-use Rattle.outline.proofs.Noted.{read-fields, fields-read}
-use Rattle.outline.proofs.Found.{filled-end}
-use mathlib.Core.List.{[], _∷_}
 use types.Run.{OneOf, miss}
 use denote.Enum.Declared.{tagOf}
+use borrow.Author.Needs.{needs}
+use Rattle.arpa.specs.Lines.{filledLines}
 use Rattle.outline.specs.declared.sections.Cursor.{Cursor}
 use Rattle.outline.specs.declared.sections.Advanced.{Advanced}
 use Rattle.outline.specs.declared.sections.Advanced.the-variants.{On}
+use Rattle.outline.proofs.Noted.{read-fields, fields-read}
+use Rattle.outline.proofs.Found.{none-behind}
 use Rattle.outline.proofs.sections.Advanced.{the-type}
 use Rattle.outline.proofs.Steps.{Walking, walking-start, walking-none, walking-on, walking-end}
-use borrow.Author.Needs.{needs}
 use Rattle.outline.proofs.sections.are_sections.Statement.{statement}
 use Rattle.outline.proofs.sections.are_sections.Tie as tie
 
@@ -54,22 +54,27 @@ not-on o next e = miss (1 ∷ 2 ∷ []) 0 tt (rw e at o)
 
 returns-2 : tie.Need-returns-2 Inv-loop μ-loop
 returns-2 c =
+    let i = c .before .before .before .before .before .before .before .before .before .before .before .loop .inv in
     let r = c .before .before .before .before .before .before .before .before .read-line .ensures .0 in
-    c .is-ended .ensures ∙ walking-end (c .before .before .before .before .before .before .before .before .before .before .before .loop .inv .1) r (omega arith) (c .before .before .advance .result) (not-on (c .before .match .keys2)) (c .before .before .advance .ensures (r .fields) _ (read-fields r))
+    let a = c .before .before .advance in
+    c .is-ended .ensures ∙ walking-end (i .1) r (omega arith) (a .result) (not-on (c .before .match .keys2)) (a .ensures (r .fields) _ (read-fields r))
 
 loop-less : tie.Need-loop-less Inv-loop μ-loop
-loop-less c = let later = c .before .before .before .before .before .before .before .before .before .read-line .ensures .0 .later (omega arith) in omega (arith, c .before .before .before .before .before .before .before .before .before .read-line .ensures .0 .within)
+loop-less c = let r = c .before .before .before .before .before .before .before .before .before .read-line .ensures .0 in omega (arith, r .later (omega arith), r .within)
 
 loop-again : tie.Need-loop-again Inv-loop μ-loop
 loop-again c =
-    let r = c .before .before .before .before .before .before .before .before .before .read-line .ensures .0 in
-    (c .before .before .before .before .before .before .before .before .before .read-line .ensures .1 ∙ c .before .before .before .before .before .before .before .before .before .before .before .before .loop .inv .0, walking-on (c .before .before .before .before .before .before .before .before .before .before .before .before .loop .inv .1) r (omega arith) (c .before .advanced .given .0 .0) (rw (c .before .advanced .given .1) at (c .before .before .before .advance .ensures (r .fields) (filledLines (drop (c .before .before .before .before .before .before .before .before .before .read-line .result .next) (c .before .before .before .before .before .before .before .before .before .before .before .before .before .before .before .before .args .text .now))) (read-fields r))))
+    let i = c .before .before .before .before .before .before .before .before .before .before .before .before .loop .inv in
+    let read = c .before .before .before .before .before .before .before .before .before .read-line in
+    let r = read .ensures .0 in
+    let a = c .before .before .before .advance .ensures (r .fields) (filledLines (drop (read .result .next) (c .before .before .before .before .before .before .before .before .before .before .before .before .before .before .before .before .args .text .now))) (read-fields r) in
+    (read .ensures .1 ∙ i .0, walking-on (i .1) r (omega arith) (c .before .advanced .given .0 .0) (rw (c .before .advanced .given .1) at a))
 
 same-length-3 : tie.Need-same-length-3 Inv-loop μ-loop
 same-length-3 c = c .before .loop .inv .0
 
 returns-3 : tie.Need-returns-3 Inv-loop μ-loop
-returns-3 c = walking-none (c .before .loop .inv .1) (filled-end (c .before .before .before .before .before .args .text .now) (c .loop-test .left))
+returns-3 c = walking-none (c .before .loop .inv .1) (none-behind (c .before .before .before .before .before .args .text .now) (c .loop-test .left))
 
 pub are-sections-spec : {M : Type 1} → statement M
 are-sections-spec =

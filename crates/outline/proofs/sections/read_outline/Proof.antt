@@ -2,8 +2,8 @@
 use mathlib.Core.Path.{sym, _∙_}
 use native.Mathlib.Omega.{arith}
 use borrow.Author.Tests.{not-true, not-false}
-use Rattle.outline.proofs.Judged.{top-is, broken-counts, broken-sections, outlined}
 use borrow.Author.Needs.{needs}
+use Rattle.outline.proofs.Judged.{top-is, broken-counts, broken-sections, outlined}
 use Rattle.outline.proofs.sections.read_outline.Statement.{statement}
 use Rattle.outline.proofs.sections.read_outline.Tie as tie
 
@@ -36,14 +36,21 @@ slice-aggregate-are-sections-2 c = sym (top-is (c .before .before .before .befor
 
 are-sections-requires : tie.Need-are-sections-requires
 are-sections-requires c κs =
+    let d = c .before .before .before .before .before .before .before .before .before .find-data .ensures .0 in
     let k = c .before .before .before .before .before .read-counts .ensures in
-    (k .0 .within, (omega (arith, k .1), omega (arith, k .0 .most, top-is (c .before .before .before .before .before .before .before .before .before .find-data .ensures .0) (k .0))))
+    (k .0 .within, (omega (arith, k .1), omega (arith, k .0 .most, top-is d (k .0))))
 
 returns-2 : tie.Need-returns-2
-returns-2 c = broken-sections (c .before .before .before .before .before .before .before .before .before .before .before .before .find-data .ensures .0) (c .before .before .before .before .before .before .before .before .read-counts .ensures .0) (omega arith) (omega arith) (sym (not-true _ (c .if2 .taken)) ∙ c .before .before .are-sections .ensures)
+returns-2 c =
+    let d = c .before .before .before .before .before .before .before .before .before .before .before .before .find-data .ensures .0 in
+    let k = c .before .before .before .before .before .before .before .before .read-counts .ensures .0 in
+    broken-sections d k (omega arith) (omega arith) (sym (not-true _ (c .if2 .taken)) ∙ c .before .before .are-sections .ensures)
 
 returns-3 : tie.Need-returns-3
-returns-3 c = outlined (c .before .before .before .before .before .before .before .before .before .before .before .before .find-data .ensures .0) (c .before .before .before .before .before .before .before .before .read-counts .ensures .0) (omega arith) (omega arith) (sym (not-false _ (c .if2 .left)) ∙ c .before .before .are-sections .ensures)
+returns-3 c =
+    let d = c .before .before .before .before .before .before .before .before .before .before .before .before .find-data .ensures .0 in
+    let k = c .before .before .before .before .before .before .before .before .read-counts .ensures .0 in
+    outlined d k (omega arith) (omega arith) (sym (not-false _ (c .if2 .left)) ∙ c .before .before .are-sections .ensures)
 
 pub read-outline-spec : {M : Type 1} → statement M
 read-outline-spec =
