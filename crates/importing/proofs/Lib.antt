@@ -3,3 +3,4 @@ pub mod Written
 pub mod Walks
 pub mod Carrying
 pub mod Noting
+pub mod Putting

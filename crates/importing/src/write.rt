@@ -3,28 +3,39 @@ use crate::walk;
 use crate::walk::Cursor;
 use crate::walk::Next;
 use ngram_lines::Gram;
+use ngram_lines::Row;
 ghost use mathlib.Core.Path.{_≡_};
 ghost use mathlib.Core.Bool.{true};
-ghost use Prim.Native.Nat.{_≤_};
-ghost use lib.ListN.{length};
+ghost use Prim.Native.Nat.{_+_, _≤_};
+ghost use lib.ListN.{length, take};
 ghost use Rattle.laws.specs.Lists.{concat};
 ghost use Rattle.meaning.specs.Reply.{writtenOver};
 ghost use Rattle.spelling.specs.Index.{Spelling};
 ghost use Rattle.importing.specs.Walk.{Walking, ngramsAt};
-ghost use Rattle.importing.specs.Model.{areScoresIn, linesIn};
+ghost use Rattle.importing.specs.Model.{areScoresIn, linesIn, RowFits};
 ghost use Rattle.importing.specs.Write.{lineOfGram, FitsAt, PutAt};
 
-// Puts the line of an n-gram that becomes one, which stands at the row's front, over what stands in the list from `n` on; the place behind it.
+// Puts the line that stands at the row's front over what stands in the list from `n` on; the place behind it.
+fn put_line(out: &mut [i32], n: usize, made: Row, row: &[i32]) -> usize
+    requires { ⌜ RowFits (now row) made ⌝ }
+    requires { ⌜ n + made .size ≤ length (now out) ⌝ }
+    ensures { λ r. ⌜ PutAt (now (out .entry)) n (take (made .size) (now (row .entry))) (now (out .exit)) r ⌝ }
+{
+    let size = made.size;
+    moves::put_front(&mut out[n..], &row[..size]);
+    n + size
+}
+
+// The same of an n-gram, where it becomes a line.
 fn put_gram(out: &mut [i32], n: usize, gram: Gram, row: &[i32]) -> usize
     requires { ⌜ FitsAt (now out) n (now row) gram ⌝ }
     ensures { λ r. ⌜ PutAt (now (out .entry)) n (lineOfGram (now (row .entry)) gram) (now (out .exit)) r ⌝ }
 {
-    let Gram::Line(made) = gram else {
-        return n;
-    };
-    let size = made.size;
-    moves::put_front(&mut out[n..], &row[..size]);
-    n + size
+    match gram {
+        Gram::PassedOver => n,
+        Gram::Unknown(_) => n,
+        Gram::Line(made) => put_line(out, n, made, row),
+    }
 }
 
 // The lines of all n-grams from the cursor on.

@@ -1,66 +1,48 @@
+-- An n-gram that becomes no line changes nothing.
+use native.Mathlib.Omega.{arith}
+use lib.Seq.{length-take-le}
+use mathlib.Core.Path.{_≡_, refl, sym, ap, _∙_}
+use Rattle.importing.proofs.Putting.{put-none}
 use borrow.Author.Needs.{needs}
 use Rattle.importing.proofs.write.put_gram.Statement.{statement}
 use Rattle.importing.proofs.write.put_gram.Tie as tie
 use Rattle.importing.proofs.write.put_gram.Reads as reads
 use Rattle.importing.proofs.write.put_gram.Lts as lts
-use Rattle.moves.proofs.put_front.Reads as put-front-reads
+use Rattle.importing.proofs.write.put_line.Reads as put-line-reads
 
--- src/write.rt:22:20
+enum-told : tie.Need-enum-told
+enum-told c = search needs
+
+enum-told-2 : tie.Need-enum-told-2
+enum-told-2 c = search needs
+
 enum-known-gram : tie.Need-enum-known-gram
 enum-known-gram c = search needs
 
--- src/write.rt:23:9
+put-line-requires : tie.Need-put-line-requires
+put-line-requires c κs = let f = rw (c .before .before .gram .given .1) at (c .before .before .before .before .pre) in (f .fits, omega (arith, f .room, length-take-le (c .before .before .gram .given .0 .0 .size) (c .before .before .before .before .args .row .now) (f .fits)))
+
 returns : tie.Need-returns
-returns c = ?
+returns c = rw (c .enum-told .given .1) (put-none (c .before .before .args .out .now) (c .before .before .args .n))
 
--- src/write.rt:26:22
-mul-put-front : tie.Need-mul-put-front
-mul-put-front c = search needs
+returns-2 : tie.Need-returns-2
+returns-2 c = rw (c .enum-told2 .given .1) (put-none (c .before .before .args .out .now) (c .before .before .args .n))
 
--- src/write.rt:26:22
-sub-put-front : tie.Need-sub-put-front
-sub-put-front c = search needs
-
--- src/write.rt:26:22
-part-put-front-start : tie.Need-part-put-front-start
-part-put-front-start c = search needs
-
--- src/write.rt:26:22
-part-put-front-end : tie.Need-part-put-front-end
-part-put-front-end c = search needs
-
--- src/write.rt:26:37
-slice-aggregate-put-front : tie.Need-slice-aggregate-put-front
-slice-aggregate-put-front c = ?
-
--- src/write.rt:26:5
-put-front-requires : tie.Need-put-front-requires
-put-front-requires c κs = ?
-
--- src/write.rt:27:5
-add-result : tie.Need-add-result
-add-result c = ?
-
--- src/write.rt:18:1
 same-length : tie.Need-same-length
 same-length c = search needs
 
--- src/write.rt:18:1
-returns-2 : tie.Need-returns-2
-returns-2 c = ?
+returns-3 : tie.Need-returns-3
+returns-3 c = rw (c .before .before .before .before .gram .given .1) (c .before .put-line .ensures)
 
 pub put-gram-spec : {M : Type 1} → statement M
 put-gram-spec =
     tie.close
     (tie.spec
+    enum-told
+    enum-told-2
     enum-known-gram
+    put-line-requires
     returns
-    mul-put-front
-    sub-put-front
-    part-put-front-start
-    part-put-front-end
-    slice-aggregate-put-front
-    put-front-requires
-    add-result
+    returns-2
     same-length
-    returns-2)
+    returns-3)

@@ -1,3 +1,11 @@
+-- The lines that were put and those that are left are all lines (Putting); each n-gram takes some bytes.
+use Prim.Native.Nat.{_-_}
+use mathlib.Core.Path.{_≡_, refl, sym, ap, _∙_}
+use native.Mathlib.Omega.{arith}
+use borrow.Author.Needs.{needs}
+use lib.ListN.{length}
+use Rattle.importing.proofs.Walks.{cursor-over}
+use Rattle.importing.proofs.Putting.{Writing, writing-start, writing-long, writing-end, writing-fits, writing-next}
 use Rattle.importing.proofs.write.write_model.Statement.{statement}
 use Rattle.importing.proofs.write.write_model.Tie as tie
 use Rattle.importing.proofs.write.write_model.Reads as reads
@@ -6,62 +14,49 @@ use Rattle.importing.proofs.walk.next_gram.Reads as next-gram-reads
 use Rattle.importing.proofs.write.put_gram.Reads as put-gram-reads
 
 abbrev Inv-loop : tie.InvT-loop
-Inv-loop text list index starts out₀ row₀ n₀ from₀ out row n from = ?
+Inv-loop text list index starts out₀ row₀ n₀ from₀ out row n from = Writing text list from₀ out₀ from n out × (length row ≡ 5)
 
 abbrev μ-loop : tie.MeasureT-loop
-μ-loop text list index starts out₀ row₀ n₀ from₀ out row n from = ?
+μ-loop text list index starts out₀ row₀ n₀ from₀ out row n from = length text - from .at
 
--- src/write.rt:41:5
 loop-holds : tie.Need-loop-holds Inv-loop μ-loop
-loop-holds c = ?
+loop-holds c = let s = c .before .before .before .before in (writing-start (s .args .list .now) (s .args .out .now) (s .pre .0) (s .pre .1 .1 .0) (s .pre .1 .1 .1), refl)
 
--- src/write.rt:42:80
 slice-aggregate-next-gram : tie.Need-slice-aggregate-next-gram Inv-loop μ-loop
-slice-aggregate-next-gram c = ?
+slice-aggregate-next-gram c = sym (c .before .before .before .loop .inv .1)
 
--- src/write.rt:42:31
 next-gram-requires : tie.Need-next-gram-requires Inv-loop μ-loop
-next-gram-requires c κs = ?
+next-gram-requires c κs = let n = c .before .before .before .loop .inv in (n .0 .walking, (rw (n .0 .words-same) (c .before .before .before .before .before .before .before .before .pre .1 .0), omega (arith, n .1)))
 
--- src/write.rt:42:24
 enum-known-met : tie.Need-enum-known-met Inv-loop μ-loop
-enum-known-met c = ?
+enum-known-met c = search needs
 
--- src/write.rt:43:13
 enum-told : tie.Need-enum-told Inv-loop μ-loop
-enum-told c = ?
+enum-told c = search needs
 
--- src/write.rt:43:13
 same-length : tie.Need-same-length Inv-loop μ-loop
-same-length c = ?
+same-length c = writing-long (c .before .before .before .before .before .before .before .loop .inv .0)
 
--- src/write.rt:43:13
 returns : tie.Need-returns Inv-loop μ-loop
-returns c = ?
+returns c = writing-end (c .before .before .before .before .before .before .before .loop .inv .0) (rw (c .enum-told .given .1) at (c .before .before .before .next-gram .ensures .0))
 
--- src/write.rt:46:36
 slice-aggregate-put-gram : tie.Need-slice-aggregate-put-gram Inv-loop μ-loop
-slice-aggregate-put-gram c = ?
+slice-aggregate-put-gram c = sym (c .before .before .before .before .before .before .next-gram .ensures .1 ∙ c .before .before .before .before .before .before .before .before .before .before .loop .inv .1)
 
--- src/write.rt:46:9
 put-gram-requires : tie.Need-put-gram-requires Inv-loop μ-loop
-put-gram-requires c κs = ?
+put-gram-requires c κs = let m = rw (c .before .before .before .met .given .1) at (c .before .before .before .before .before .before .next-gram .ensures .0) in writing-fits (c .before .before .before .before .before .before .before .before .before .before .loop .inv .0) (c .before .before .before .before .before .before .next-gram .last .1 .1 .1 .1 .1 .0) (c .before .before .before .met .given .0 .0) m
 
--- src/write.rt:41:5
 loop-less : tie.Need-loop-less Inv-loop μ-loop
-loop-less c = ?
+loop-less c = let m = rw (c .before .before .before .before .before .before .met .given .1) at (c .before .before .before .before .before .before .before .before .before .next-gram .ensures .0) in omega (arith, m .later, m .walking .within)
 
--- src/write.rt:41:5
 loop-again : tie.Need-loop-again Inv-loop μ-loop
-loop-again c = ?
+loop-again c = let m = rw (c .before .before .before .before .before .before .met .given .1) at (c .before .before .before .before .before .before .before .before .before .next-gram .ensures .0) in (writing-next (c .before .before .before .before .before .before .before .before .before .before .before .before .before .loop .inv .0) (c .before .before .before .before .before .before .before .before .before .next-gram .last .1 .1 .1 .1 .1 .0) (c .before .before .before .before .before .before .met .given .0 .0) m (c .before .before .put-gram .ensures), c .before .before .before .before .before .before .before .before .before .next-gram .ensures .1 ∙ c .before .before .before .before .before .before .before .before .before .before .before .before .before .loop .inv .1)
 
--- src/write.rt:31:1
 same-length-2 : tie.Need-same-length-2 Inv-loop μ-loop
-same-length-2 c = ?
+same-length-2 c = writing-long (c .before .before .loop .inv .0)
 
--- src/write.rt:31:1
 returns-2 : tie.Need-returns-2 Inv-loop μ-loop
-returns-2 c = ?
+returns-2 c = writing-end (c .before .before .loop .inv .0) (cursor-over (c .before .before .before .before .before .before .before .args .text .now) (c .before .before .loop .from) (omega arith))
 
 pub write-model-spec : {M : Type 1} → statement M
 write-model-spec =
