@@ -40,7 +40,7 @@ fn begin(survey: Survey) -> Model
 }
 
 // The first of two numbers where there is one.
-fn first_of(had: bool, old: i32, new: i32) -> i32
+pub fn first_of(had: bool, old: i32, new: i32) -> i32
     ensures { λ r. ⌜ r ≡ cond had old new ⌝ }
 {
     if had { old } else { new }
