@@ -1,15 +1,15 @@
 -- The n-grams of a text that 23 passes have one to three words.
 use Prim.Native.Nat.{ℕ, zero, suc, _+_, _≤_, _<_}
-use mathlib.Core.Path.{_≡_, refl, sym, ap, _∙_}
-use mathlib.Core.Bool.{Bool, true, false, _&&_, cond}
-use mathlib.Core.List.{List, [], _∷_, _++_, map, List·Memᴰ}
+use mathlib.Core.Path.{_≡_, refl, _∙_}
+use mathlib.Core.Bool.{Bool, true, _&&_}
+use mathlib.Core.List.{List, [], _∷_, map}
 use native.Mathlib.Omega.{arith}
 use borrow.Author.Tests.{leb-true, le-leb}
 use lib.Dec.{leb, ltb}
 use lib.ListN.{length, take, drop}
 use lib.Seq.{length-take-le}
-use Rattle.laws.specs.Lists.{all, keep, count}
-use Rattle.laws.proofs.Lists.{all-++, all-map, all-mem, mem-all, keep-mem}
+use Rattle.laws.specs.Lists.{all, count}
+use Rattle.laws.proofs.Lists.{all-++, all-mem, mem-all, keep-mem}
 use Rattle.laws.proofs.Tests.{both, both-of, clash, between, by-test}
 use Rattle.meaning.specs.Questions.{within}
 use Rattle.arpa.specs.Values.{isValue}

@@ -1,17 +1,17 @@
 -- A word of the word list has a number, and no other word has it.
-use Prim.Native.Nat.{ℕ, zero, suc, _+_, _-_, _≤_, _<_}
+use Prim.Native.Nat.{ℕ, suc, _+_, _≤_}
 use mathlib.Core.Path.{_≡_, refl, sym, ap, _∙_}
-use mathlib.Core.Bool.{Bool, true, false, _&&_, _||_, cond}
+use mathlib.Core.Bool.{true}
 use mathlib.Core.List.{List, [], _∷_, map}
 use mathlib.Core.Logic.{_⊎_, inl, inr, ⊎-elim}
 use native.Mathlib.Omega.{arith}
 use borrow.Author.Tests.{leb-true, eq-eqb, eqb-true}
 use native.Mathlib.Nat.{min-le-left}
-use lib.Dec.{eqb, leb}
+use lib.Dec.{eqb}
 use lib.ListN.{length, length-take}
 use Rattle.laws.specs.Lists.{all, eqList}
 use Rattle.laws.proofs.Lists.{eqList-is, eqList-refl}
-use Rattle.laws.proofs.Tests.{both, both-of, clash, by-test, one-of, same-test}
+use Rattle.laws.proofs.Tests.{both, by-test, same-test}
 use Rattle.meaning.specs.Numerals.{newline, split}
 use Rattle.arpa.specs.Lines.{eqBytes}
 use Rattle.arpa.specs.Words.{startWord, spelledMost, spellings, firstFrom, spelled, wordNumber, isKnown}

@@ -1,7 +1,7 @@
 -- What becomes of an n-gram, by the tests that were made of it.
 use Prim.Native.Nat.{ℕ, _≤_}
 use mathlib.Core.Path.{_≡_, refl, sym, ap, _∙_}
-use mathlib.Core.Bool.{Bool, true, false, not, _&&_}
+use mathlib.Core.Bool.{Bool, true, false, _&&_}
 use mathlib.Core.List.{List, [], _∷_, map}
 use native.Mathlib.Omega.{arith}
 use lib.IntN.{ℤ}
@@ -32,7 +32,7 @@ module _ (g : Ngram) where
   unfolding isImported
   unknown-is t = rw (t, unknown-kept t)
 
-  pub kept-is : isPassedOver g ≡ false → isUnknown g ≡ false → isImported g ≡ true
+  kept-is : isPassedOver g ≡ false → isUnknown g ≡ false → isImported g ≡ true
   unfolding isImported
   kept-is f u = rw (f, u)
 
@@ -45,7 +45,7 @@ line-long (v ∷ w ∷ y ∷ []) s k s′ k′ = (refl, omega arith)
 line-long (t ∷ v ∷ w ∷ y ∷ words) s k s′ k′ = (refl, omega arith)
 
 module _ (list : List ℕ) (g : Ngram) (n : ℕ) (row : List ℤ) {order : ℕ} {w : Words} {s k : ℤ} {ranged : Bool}
-    (imported : isImported g ≡ true) (are : WordsAre list (g .words) order w) (score : Rounded (g .score) s) (weight : Rounded (g .weight) k)
+    (kept : isPassedOver g ≡ false) (not-unknown : isUnknown g ≡ false) (are : WordsAre list (g .words) order w) (score : Rounded (g .score) s) (weight : Rounded (g .weight) k)
     (in-range : ranged ≡ isScore s && isScore k) (put : take n row ≡ lineOf (numbersOf order w) s k) (within : n ≤ length row) where
   put-line : take n row ≡ lineOf (map (wordNumber list) (g .words)) s k
   put-line = put ∙ ap (λ (numbers : List ℕ). lineOf numbers s k) (are .numbers-are)
@@ -61,7 +61,8 @@ module _ (list : List ℕ) (g : Ngram) (n : ℕ) (row : List ℤ) {order : ℕ} 
   row-is =
       let long = line-long (map (wordNumber list) (g .words)) s k (g .score) (g .weight) in
       record {
-        imported = imported;
+        imported = kept-is g kept not-unknown;
+        not-unknown = not-unknown;
         known-is = are .known-is;
         ranged-is = ranged-as;
         within = within;

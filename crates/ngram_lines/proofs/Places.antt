@@ -1,20 +1,18 @@
 -- An n-gram's words, by the places of its line's fields: word k, from 1 on, is field k.
 use Prim.Native.Nat.{ℕ, zero, suc, _+_, _-_, _≤_, _<_}
-use mathlib.Core.Path.{_≡_, refl, sym, ap, _∙_}
-use mathlib.Core.Bool.{Bool, true, false, _&&_, _||_, and-true}
+use mathlib.Core.Path.{_≡_, refl, ap, _∙_}
+use mathlib.Core.Bool.{Bool, true, false}
 use mathlib.Core.List.{List, [], _∷_, map}
 use native.Mathlib.Omega.{arith}
-use lib.Dec.{leb}
-use lib.ListN.{length, getD, take, drop}
+use lib.ListN.{length, getD, take, drop, length-map}
 use lib.Seq.{drop-cons}
 use borrow.Author.Tests.{lt-leb, le-leb}
-use Rattle.laws.specs.Lists.{any, eqList, numbersFrom}
-use Rattle.laws.proofs.Lists.{numbers-first, eqList-length}
-use Rattle.laws.proofs.Tests.{is-false}
+use Rattle.laws.specs.Lists.{any, numbersFrom}
+use Rattle.laws.proofs.Lists.{numbers-length, numbers-first}
 use Rattle.arpa.specs.Lines.{eqBytes}
-use Rattle.arpa.specs.File.{Ngram, unknownWord, isGramLine, ngramOf, isUnknown}
+use Rattle.arpa.specs.File.{Ngram, unknownWord, ngramOf}
 use Rattle.arpa.specs.Words.{startWord}
-use Rattle.arpa.specs.Import.{stopWord, holds, isLonger, endsIn, isPassedOver}
+use Rattle.arpa.specs.Import.{stopWord, holds, isPassedOver}
 use Rattle.arpa.proofs.Ngrams.{gram-long}
 use Rattle.tokens.specs.Scan.{fieldAt, FieldNoted, Noted}
 use Rattle.tokens.specs.Fields.{FieldsAt}
@@ -45,6 +43,9 @@ module _ {text places : List ℕ} {count order : ℕ} (r : GramRead text places 
   pub read-noted : (k : ℕ) → k ≤ order + 1 → k < count → FieldNoted text places k
   read-noted k l m = r .at .noted .part k (omega (arith, r .order-to)) (omega (arith, r .at .long))
 
+  pub word-noted : (k : ℕ) → k ≤ order → FieldNoted text places k
+  word-noted k l = read-noted k (omega arith) (omega (arith, read-long))
+
   pub words-are : (fields : List (List ℕ)) → FieldsAt text places count fields → ngramOf order fields .words ≡ fieldsFrom text places 1 order
   words-are fields f = words-part order fields ∙ noted-part text places (f .noted) order 1 (omega (arith, r .order-to)) (omega (arith, read-long, f .long))
 
@@ -68,10 +69,7 @@ module _ (text places word : List ℕ) (k many : ℕ) (l : 0 < many) where
 
 -- ---- passed over
 
-numbers-size : (k many : ℕ) → (text places : List ℕ) → length (fieldsFrom text places k many) ≡ many
-numbers-size k zero text places = refl
-numbers-size k (suc many) text places = ap suc (numbers-size (suc k) many text places)
-
+-- the last word
 last-field : (text places : List ℕ) (order : ℕ) → 2 ≤ order → order ≤ 3 → getD (fieldsFrom text places 1 order) (length (fieldsFrom text places 1 order) - 1) [] ≡ fieldAt text places order
 last-field text places zero lo hi = absurd (omega arith)
 last-field text places (suc zero) lo hi = absurd (omega arith)
@@ -79,9 +77,13 @@ last-field text places (suc (suc zero)) lo hi = refl
 last-field text places (suc (suc (suc zero))) lo hi = refl
 last-field text places (suc (suc (suc (suc order)))) lo hi = absurd (omega arith)
 
-module _ (g : Ngram) (text places : List ℕ) (order : ℕ) (are : g .words ≡ fieldsFrom text places 1 order) where
+module _ {text places : List ℕ} {count order : ℕ} (r : GramRead text places count order) (fields : List (List ℕ)) (f : FieldsAt text places count fields) where
+  -- the n-gram
+  abbrev g : Ngram
+  g = ngramOf order fields
+
   words-long : length (g .words) ≡ order
-  words-long = ap length are ∙ numbers-size 1 order text places
+  words-long = ap length (words-are r fields f) ∙ length-map (numbersFrom 1 order) (fieldAt text places) ∙ numbers-length 1 order
 
   pub stop-passed : holds stopWord g ≡ true → isPassedOver g ≡ true
   unfolding isPassedOver
@@ -89,22 +91,14 @@ module _ (g : Ngram) (text places : List ℕ) (order : ℕ) (are : g .words ≡ 
 
   pub short-kept : holds stopWord g ≡ false → order < 2 → isPassedOver g ≡ false
   unfolding isPassedOver
-  short-kept f l = rw (f, lt-leb 2 (length (g .words)) (omega (arith, words-long)))
+  short-kept n l = rw (n, lt-leb 2 (length (g .words)) (omega (arith, words-long)))
 
   pub unknown-passed : holds stopWord g ≡ false → 2 ≤ order → holds unknownWord g ≡ true → isPassedOver g ≡ true
   unfolding isPassedOver
-  unknown-passed f l t = rw (f, le-leb 2 (length (g .words)) (omega (arith, words-long)), t)
+  unknown-passed n l t = rw (n, le-leb 2 (length (g .words)) (omega (arith, words-long)), t)
 
-  pub last-passed : holds stopWord g ≡ false → 2 ≤ order → order ≤ 3 → holds unknownWord g ≡ false → isPassedOver g ≡ eqBytes (fieldAt text places order) startWord
+  pub last-passed : holds stopWord g ≡ false → 2 ≤ order → holds unknownWord g ≡ false → isPassedOver g ≡ eqBytes (fieldAt text places order) startWord
   unfolding isPassedOver
-  last-passed f l m u =
-      rw (f, le-leb 2 (length (g .words)) (omega (arith, words-long)), u)
-      (ap (λ (ws : List (List ℕ)). eqBytes (getD ws (length ws - 1) []) startWord) are ∙ ap (λ (w : List ℕ). eqBytes w startWord) (last-field text places order l m))
-
-  -- ---- `<unk>` alone
-
-  pub longer-known : (order ≡ 1 → ⊥) → isUnknown g ≡ false
-  longer-known d = is-false (λ t. d (sym words-long ∙ eqList-length eqBytes (g .words) (unknownWord ∷ []) t))
-
-  pub alone-unknown : order ≡ 1 → isUnknown g ≡ eqBytes (fieldAt text places 1) unknownWord
-  alone-unknown e = rw (are, e) (and-true (eqBytes (fieldAt text places 1) unknownWord))
+  last-passed n l u =
+      rw (n, le-leb 2 (length (g .words)) (omega (arith, words-long)), u)
+      (ap (λ (ws : List (List ℕ)). eqBytes (getD ws (length ws - 1) []) startWord) (words-are r fields f) ∙ ap (λ (w : List ℕ). eqBytes w startWord) (last-field text places order l (r .order-to)))

@@ -1,7 +1,7 @@
 -- What becomes of the line of an n-gram.
 use Prim.Native.Nat.{ℕ, _≤_}
 use mathlib.Core.Path.{_≡_}
-use mathlib.Core.Bool.{Bool, true, false, _&&_}
+use mathlib.Core.Bool.{true, false, _&&_}
 use mathlib.Core.List.{List, [], _∷_, map}
 use lib.IntN.{ℤ}
 use lib.ListN.{length, take}
@@ -49,9 +49,10 @@ pub record WordsAre (list : List ℕ) (words : List (List ℕ)) (order : ℕ) (r
   pub known-is : r .known ≡ all (isKnown list) words
   pub small : AreSmall r
 
--- the line stands at the row's front; where a value leaves a score's range, another stands in its place that does too
+-- the line stands at the row's front; where a value leaves a score's range, another stands in its place that does too. It is as long either way
 pub record RowIs (list : List ℕ) (g : Ngram) (row : List ℤ) (r : Row) : Type 0 where
   pub imported : isImported g ≡ true
+  pub not-unknown : isUnknown g ≡ false
   pub known-is : r .known ≡ all (isKnown list) (g .words)
   pub ranged-is : r .ranged ≡ isScore (g .score) && isWeight (g .weight)
   pub within : r .size ≤ length row

@@ -7,10 +7,9 @@ ghost use mathlib.Core.Path.{_≡_};
 ghost use mathlib.Core.Bool.{true};
 ghost use mathlib.Core.List.{List};
 ghost use Prim.Native.Nat.{ℕ, _≤_};
-ghost use lib.IntN.{ℤ};
-ghost use lib.ListN.{length, take, drop};
+ghost use lib.ListN.{length, take};
 ghost use Rattle.arpa.specs.Values.{isValue, thousandths};
-ghost use Rattle.arpa.specs.File.{isGramLine, weightOf, ngramOf, isUnknown};
+ghost use Rattle.arpa.specs.File.{isGramLine, ngramOf};
 ghost use Rattle.arpa.specs.Import.{holds, isPassedOver, lineOf};
 ghost use Rattle.tokens.specs.Scan.{fieldAt, FieldNoted};
 ghost use Rattle.tokens.specs.Fields.{FieldsAt};
@@ -89,17 +88,6 @@ fn is_passed_over(text: &[u8], places: &[usize], at: Fields) -> bool
     same_bytes(scan::field(text, places, order), b"<s>")
 }
 
-// Whether it is `<unk>` alone.
-fn is_unknown(text: &[u8], places: &[usize], at: Fields) -> bool
-    requires { ⌜ GramRead (now text) (now places) (at .count) (at .order) ⌝ }
-    ensures { λ r. ⌜ ((fields : List (List ℕ)) (top : ℕ) → FieldsAt (now (text .entry)) (now (places .entry)) (at .count) fields → isGramLine top (at .order) fields ≡ true → r ≡ isUnknown (ngramOf (at .order) fields)) ⌝ }
-{
-    if at.order != 1 {
-        return false;
-    }
-    same_bytes(scan::field(text, places, 1), b"<unk>")
-}
-
 // ---- words and values
 
 // The number of a word: `<s>` is 0, and every other word is looked up.
@@ -121,7 +109,14 @@ fn find(list: &[u8], index: &[u16], starts: &[usize], words: usize, word: &[u8])
 }
 
 // The numbers of its words.
-fn words_of(text: &[u8], places: &[usize], at: Fields, list: &[u8], index: &[u16], starts: &[usize]) -> Words
+fn words_of(
+    text: &[u8],
+    places: &[usize],
+    at: Fields,
+    list: &[u8],
+    index: &[u16],
+    starts: &[usize],
+) -> Words
     requires { ⌜ GramRead (now text) (now places) (at .count) (at .order) ⌝ }
     requires { ⌜ Spelling (now list) (now index) (now starts) (at .words) ⌝ }
     ensures { λ r. ⌜ ((fields : List (List ℕ)) (top : ℕ) → FieldsAt (now (text .entry)) (now (places .entry)) (at .count) fields → isGramLine top (at .order) fields ≡ true → WordsAre (now (list .entry)) (ngramOf (at .order) fields .words) (at .order) r) ⌝ }
@@ -206,7 +201,15 @@ fn put_row(row: &mut [i32], order: usize, words: Words, score: i32, weight: i32)
 }
 
 // What becomes of the n-gram; its line, where it has one, is put at the row's front.
-pub fn read_gram(text: &[u8], places: &[usize], at: Fields, list: &[u8], index: &[u16], starts: &[usize], row: &mut [i32]) -> Gram
+pub fn read_gram(
+    text: &[u8],
+    places: &[usize],
+    at: Fields,
+    list: &[u8],
+    index: &[u16],
+    starts: &[usize],
+    row: &mut [i32],
+) -> Gram
     requires { ⌜ GramRead (now text) (now places) (at .count) (at .order) ⌝ }
     requires { ⌜ Spelling (now list) (now index) (now starts) (at .words) ⌝ }
     requires { ⌜ 5 ≤ length (now row) ⌝ }
@@ -217,7 +220,7 @@ pub fn read_gram(text: &[u8], places: &[usize], at: Fields, list: &[u8], index: 
         return Gram::PassedOver;
     }
     let score = value_at(text, places, 0);
-    if is_unknown(text, places, at) {
+    if outline::lines::is_unknown(text, places, at.count, at.order) {
         return Gram::Unknown(score);
     }
     let words = words_of(text, places, at, list, index, starts);

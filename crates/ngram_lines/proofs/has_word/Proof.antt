@@ -1,18 +1,13 @@
 -- The fields from k on hold the word where all do; the measure is how many are left.
-use native.Mathlib.Omega.{arith}
-use mathlib.Core.Path.{_≡_, refl, sym, ap, _∙_}
-use mathlib.Core.List.{List}
 use Prim.Native.Nat.{ℕ, _+_, _-_, _≤_}
-use Rattle.arpa.specs.Lines.{eqBytes}
+use mathlib.Core.Path.{_≡_, sym, ap, _∙_}
+use mathlib.Core.List.{List}
+use native.Mathlib.Omega.{arith}
 use borrow.Author.Needs.{needs}
-use Rattle.tokens.specs.Scan.{fieldAt}
-use Rattle.ngram_lines.proofs.Places.{isAmong, holds-among, among-hit, among-next, read-long, read-noted}
+use Rattle.arpa.specs.Lines.{eqBytes}
+use Rattle.ngram_lines.proofs.Places.{isAmong, holds-among, among-hit, among-next, word-noted}
 use Rattle.ngram_lines.proofs.has_word.Statement.{statement}
 use Rattle.ngram_lines.proofs.has_word.Tie as tie
-use Rattle.ngram_lines.proofs.has_word.Reads as reads
-use Rattle.ngram_lines.proofs.has_word.Lts as lts
-use Rattle.tokens.proofs.same.same_bytes.Reads as same-bytes-reads
-use Rattle.tokens.proofs.scan.field.Reads as field-reads
 
 abbrev Inv-loop : tie.InvT-loop
 Inv-loop text places word order k₀ k = (1 ≤ k) × (k ≤ order + 1) × (isAmong text places word k ((order + 1) - k) ≡ isAmong text places word 1 order)
@@ -20,19 +15,18 @@ Inv-loop text places word order k₀ k = (1 ≤ k) × (k ≤ order + 1) × (isAm
 abbrev μ-loop : tie.MeasureT-loop
 μ-loop text places word order k₀ k = (order + 1) - k
 
--- src/lib.rt:65:5
 loop-holds : tie.Need-loop-holds Inv-loop μ-loop
-loop-holds c = let z : (c .before .before .before .args .at .order + 1) - 1 ≡ c .before .before .before .args .at .order = omega arith in (omega arith, omega arith, rw z)
+loop-holds c =
+    let a = c .before .before .before .args in
+    let z : (a .at .order + 1) - 1 ≡ a .at .order = omega arith in
+    (omega arith, omega arith, ap (isAmong (a .text .now) (a .places .now) (a .word .now) 1) z)
 
--- src/lib.rt:66:23
 field-requires : tie.Need-field-requires Inv-loop μ-loop
-field-requires c κs = read-noted (c .before .before .before .before .before .pre) (c .before .loop .k) (omega arith) (omega (arith, read-long (c .before .before .before .before .before .pre)))
+field-requires c κs = word-noted (c .before .before .before .before .before .pre) (c .before .loop .k) (omega arith)
 
--- src/lib.rt:66:12
 same-bytes-requires : tie.Need-same-bytes-requires Inv-loop μ-loop
 same-bytes-requires c κs = search needs
 
--- src/lib.rt:67:13
 returns : tie.Need-returns Inv-loop μ-loop
 returns c = λ fields f.
     let s = c .before .before .before .before .before .before .before .before in
@@ -40,24 +34,20 @@ returns c = λ fields f.
     let t = sym (c .before .same-bytes .ensures ∙ ap (λ (w : List ℕ). eqBytes w (s .args .word .now)) (c .before .before .field .ensures)) ∙ c .if1 .taken in
     sym (holds-among (s .pre) (s .args .word .now) fields f ∙ sym (l .inv .2) ∙ among-hit (s .args .text .now) (s .args .places .now) (s .args .word .now) (l .k) ((s .args .at .order + 1) - l .k) (omega arith) t)
 
--- src/lib.rt:69:9
 add-k : tie.Need-add-k Inv-loop μ-loop
 add-k c = omega (arith, c .before .before .before .before .before .before .before .before .pre .order-to)
 
--- src/lib.rt:65:5
 loop-less : tie.Need-loop-less Inv-loop μ-loop
 loop-less c = omega arith
 
--- src/lib.rt:65:5
 loop-again : tie.Need-loop-again Inv-loop μ-loop
-loop-again c = 
+loop-again c =
     let s = c .before .before .before .before .before .before .before .before in
     let l = c .before .before .before .before .loop in
     let f = sym (c .before .same-bytes .ensures ∙ ap (λ (w : List ℕ). eqBytes w (s .args .word .now)) (c .before .before .field .ensures)) ∙ c .if1 .left in
     let z : (s .args .at .order + 1) - (l .k + 1) ≡ ((s .args .at .order + 1) - l .k) - 1 = omega arith in
     (omega arith, omega arith, rw z (sym (among-next (s .args .text .now) (s .args .places .now) (s .args .word .now) (l .k) ((s .args .at .order + 1) - l .k) (omega arith) f) ∙ l .inv .2))
 
--- src/lib.rt:59:1
 returns-2 : tie.Need-returns-2 Inv-loop μ-loop
 returns-2 c = λ fields f.
     let s = c .before .before .before .before .before in

@@ -1,42 +1,31 @@
 -- The line's numbers are put at the front as they are; each word's number fits a place of the row.
+use mathlib.Core.Path.{_≡_, ap, _∙_}
+use mathlib.Core.List.{[], _∷_}
 use native.Mathlib.Omega.{arith}
-use mathlib.Core.Path.{_≡_, refl, sym, ap, _∙_}
-use mathlib.Core.List.{List}
-use Prim.Native.Nat.{ℕ, _+_, _-_, _≤_}
-use Rattle.arpa.specs.Lines.{eqBytes}
+use lib.IntN.{pos}
+use lib.ListN.{length, take, length-drop}
 use mir.Syntax.{w32}
 use mir.Val.{toZ, ofZ}
 use mir.ValLaws.{toZ-pos}
-use lib.IntN.{pos}
-use lib.ListN.{length, take, length-drop}
-use mathlib.Core.List.{[], _∷_}
-use Rattle.meaning.specs.Reply.{writtenOver}
 use borrow.Author.Needs.{needs}
+use Rattle.meaning.specs.Reply.{writtenOver}
 use Rattle.ngram_lines.proofs.put_row.Statement.{statement}
 use Rattle.ngram_lines.proofs.put_row.Tie as tie
-use Rattle.ngram_lines.proofs.put_row.Reads as reads
-use Rattle.ngram_lines.proofs.put_row.Lts as lts
-use Rattle.moves.proofs.put_front.Reads as put-front-reads
 
--- src/lib.rt:190:17
 cast-first : tie.Need-cast-first
 cast-first c = search needs
 
--- src/lib.rt:193:31
 slice-aggregate-put-front : tie.Need-slice-aggregate-put-front
 slice-aggregate-put-front c = search needs
 
--- src/lib.rt:193:9
 put-front-requires : tie.Need-put-front-requires
 put-front-requires c κs = search needs
 
--- src/lib.rt:194:9
 same-length : tie.Need-same-length
 same-length c = search needs
 
--- src/lib.rt:194:9
 returns : tie.Need-returns
-returns c = 
+returns c =
     let s = c .before .before .before .before .before .before in
     let w = s .args .words in
     let row = s .args .row .now in
@@ -47,25 +36,20 @@ returns c =
     let o : s .args .order ≡ 1 = omega arith in
     (ap (take 4) e ∙ rw o, (omega (arith, ap length e), omega (arith, ap length e, length-drop 4 row)))
 
--- src/lib.rt:196:18
 cast-second : tie.Need-cast-second
 cast-second c = search needs
 
--- src/lib.rt:199:31
 slice-aggregate-put-front-2 : tie.Need-slice-aggregate-put-front-2
 slice-aggregate-put-front-2 c = search needs
 
--- src/lib.rt:199:9
 put-front-requires-2 : tie.Need-put-front-requires-2
 put-front-requires-2 c κs = search needs
 
--- src/lib.rt:200:9
 same-length-2 : tie.Need-same-length-2
 same-length-2 c = search needs
 
--- src/lib.rt:200:9
 returns-2 : tie.Need-returns-2
-returns-2 c = 
+returns-2 c =
     let s = c .before .before .before .before .before .before .before .before in
     let w = s .args .words in
     let row = s .args .row .now in
@@ -77,25 +61,20 @@ returns-2 c =
     let o : s .args .order ≡ 2 = omega arith in
     (ap (take 5) e ∙ rw o, (omega (arith, ap length e), omega (arith, ap length e, length-drop 5 row)))
 
--- src/lib.rt:202:17
 cast-third : tie.Need-cast-third
 cast-third c = search needs
 
--- src/lib.rt:204:27
 slice-aggregate-put-front-3 : tie.Need-slice-aggregate-put-front-3
 slice-aggregate-put-front-3 c = search needs
 
--- src/lib.rt:204:5
 put-front-requires-3 : tie.Need-put-front-requires-3
 put-front-requires-3 c κs = search needs
 
--- src/lib.rt:183:1
 same-length-3 : tie.Need-same-length-3
 same-length-3 c = search needs
 
--- src/lib.rt:183:1
 returns-3 : tie.Need-returns-3
-returns-3 c = 
+returns-3 c =
     let s = c .before .before .before .before .before .before .before .before .before in
     let w = s .args .words in
     let row = s .args .row .now in

@@ -1,106 +1,93 @@
-
 -- What the tests say of it is what becomes of it; its line has the words' numbers and the two values, which are exact where both are in a score's range.
+use mathlib.Core.Path.{_≡_, refl, sym, _∙_}
 use native.Mathlib.Omega.{arith}
-use mathlib.Core.Path.{_≡_, refl, sym, ap, _∙_}
-use mathlib.Core.List.{List}
-use Prim.Native.Nat.{ℕ, _+_, _-_, _≤_}
-use Rattle.arpa.specs.Lines.{eqBytes}
 use mir.Syntax.{w32}
 use mir.Val.{toZ, ofZ}
-use Rattle.ngram_lines.proofs.Places.{read-long, read-noted}
-use Rattle.ngram_lines.proofs.Values.{score-noted}
-use Rattle.ngram_lines.proofs.Imported.{passed-is, unknown-is, kept-is, row-is}
-use Rattle.arpa.specs.File.{ngramOf}
 use borrow.Author.Needs.{needs}
+use Rattle.arpa.specs.File.{ngramOf}
+use Rattle.arpa.proofs.Ngrams.{gram-long}
+use Rattle.ngram_lines.proofs.Places.{word-noted}
+use Rattle.ngram_lines.proofs.Values.{score-noted}
+use Rattle.ngram_lines.proofs.Imported.{passed-is, unknown-is, row-is}
 use Rattle.ngram_lines.proofs.read_gram.Statement.{statement}
 use Rattle.ngram_lines.proofs.read_gram.Tie as tie
-use Rattle.ngram_lines.proofs.read_gram.Reads as reads
-use Rattle.ngram_lines.proofs.read_gram.Lts as lts
-use Rattle.book.proofs.survey.and_also.Reads as and-also-reads
-use Rattle.lines.proofs.is_score.Reads as is-score-reads
-use Rattle.ngram_lines.proofs.is_passed_over.Reads as is-passed-over-reads
-use Rattle.ngram_lines.proofs.is_unknown.Reads as is-unknown-reads
-use Rattle.ngram_lines.proofs.put_row.Reads as put-row-reads
-use Rattle.ngram_lines.proofs.value_at.Reads as value-at-reads
-use Rattle.ngram_lines.proofs.weight_of.Reads as weight-of-reads
-use Rattle.ngram_lines.proofs.words_of.Reads as words-of-reads
 
--- src/lib.rt:216:8
 is-passed-over-requires : tie.Need-is-passed-over-requires
 is-passed-over-requires c κs = search needs
 
--- src/lib.rt:217:9
 returns : tie.Need-returns
 returns c = (λ fields top f h. passed-is (ngramOf (c .before .before .before .before .before .before .before .args .at .order) fields) (sym (c .before .is-passed-over .ensures fields top f h) ∙ c .if1 .taken), refl)
 
--- src/lib.rt:219:9
 value-at-requires : tie.Need-value-at-requires
-value-at-requires c κs = 
-    let p = c .before .before .before .before .before .before .before .pre .0 in
-    (read-noted p 0 (omega arith) (omega (arith, read-long p)), score-noted (p .at) (p .top) (c .before .before .before .before .before .before .before .args .at .order) (p .order-to) (p .is) .0)
+value-at-requires c κs =
+    let s = c .before .before .before .before .before .before .before in
+    let p = s .pre .0 in
+    (word-noted p 0 (omega arith), score-noted (p .at) (p .top) (s .args .at .order) (p .order-to) (p .is) .0)
 
--- src/lib.rt:220:8
 is-unknown-requires : tie.Need-is-unknown-requires
-is-unknown-requires c κs = search needs
+is-unknown-requires c κs =
+    let s = c .before .before .before .before .before .before .before .before in
+    let p = s .pre .0 in
+    (record { fields = p .fields; at = p .at }, omega (arith, gram-long (p .top) (s .args .at .order) (p .fields) (p .is), p .at .long))
 
--- src/lib.rt:221:9
 returns-2 : tie.Need-returns-2
-returns-2 c = 
+returns-2 c =
     let s = c .before .before .before .before .before .before .before .before .before .before in
-    let r : toZ w32 (ofZ w32 (c .before .before .value-at .result)) ≡ c .before .before .value-at .result = search needs in
-    (λ fields top f h.
-    let u = sym (c .before .is-unknown .ensures fields top f h) ∙ c .if2 .taken in
-    (unknown-is (ngramOf (s .args .at .order) fields) u, u, rw (r, score-noted f top (s .args .at .order) (s .pre .0 .order-to) h .1) (c .before .before .value-at .ensures)), refl)
+    let r : toZ w32 (ofZ w32 (c .before .before .value-at .result)) ≡ c .before .before .value-at .result = search needs in (
+      λ fields top f h.
+          let u = sym (c .before .is-unknown .ensures fields f) ∙ c .if2 .taken in
+          (unknown-is (ngramOf (s .args .at .order) fields) u, u, rw (r, score-noted f top (s .args .at .order) (s .pre .0 .order-to) h .1) (c .before .before .value-at .ensures)),
+      refl,
+    )
 
--- src/lib.rt:223:9
 words-of-requires : tie.Need-words-of-requires
 words-of-requires c κs = search needs
 
--- src/lib.rt:224:9
 weight-of-requires : tie.Need-weight-of-requires
 weight-of-requires c κs = search needs
 
--- src/lib.rt:225:27
 is-score-requires : tie.Need-is-score-requires
 is-score-requires c κs = search needs
 
--- src/lib.rt:225:51
 is-score-requires-2 : tie.Need-is-score-requires-2
 is-score-requires-2 c κs = search needs
 
--- src/lib.rt:225:9
 and-also-requires : tie.Need-and-also-requires
 and-also-requires c κs = search needs
 
--- src/lib.rt:226:9
 put-row-requires : tie.Need-put-row-requires
-put-row-requires c κs = 
-    let p = c .before .before .before .before .before .before .before .before .before .before .before .before .before .before .before .before .pre .0 in
-    (c .before .before .before .before .before .before .before .before .before .before .before .before .before .before .before .before .pre .1 .1, ((p .order-from, p .order-to), c .before .before .before .before .before .words-of .ensures (p .fields) (p .top) (p .at) (p .is) .small))
+put-row-requires c κs =
+    let s = c .before .before .before .before .before .before .before .before .before .before .before .before .before .before .before .before in
+    let p = s .pre .0 in
+    (s .pre .1 .1, ((p .order-from, p .order-to), c .before .before .before .before .before .words-of .ensures (p .fields) (p .top) (p .at) (p .is) .small))
 
--- src/lib.rt:209:1
 same-length : tie.Need-same-length
 same-length c = search needs
 
--- src/lib.rt:209:1
 returns-3 : tie.Need-returns-3
-returns-3 c = 
-    let s = c .before .before .before .before .before .before .before .before .before .before .before .before .before .before .before .before .before .before in
+returns-3 c =
+    let w = c .before .before .before .before .before .before .before in
+    let e = w .before in
+    let k = e .before .before .before in
+    let s = k .before .before .before .before .before .before .before in
     let n = s .args .at .order in
-    let score = c .before .before .before .before .before .before .before .before .before .before .value-at in
+    let score = e .before .before .value-at in
     let weight = c .before .before .before .before .before .before .weight-of in
     let p : toZ w32 (ofZ w32 (score .result)) ≡ score .result = search needs in
     let q : toZ w32 (ofZ w32 (weight .result)) ≡ weight .result = search needs in
-    let put = c .before .put-row .ensures in
-    (λ fields top f h.
-    row-is (s .args .list .now) (ngramOf n fields) (c .before .put-row .result) (c .before .put-row .last .0)
-    (kept-is (ngramOf n fields) (sym (c .before .before .before .before .before .before .before .before .before .before .before .before .is-passed-over .ensures fields top f h) ∙ c .before .before .before .before .before .before .before .before .before .before .before .if1 .left) (sym (c .before .before .before .before .before .before .before .before .before .is-unknown .ensures fields top f h) ∙ c .before .before .before .before .before .before .before .before .if2 .left))
-    (c .before .before .before .before .before .before .before .words-of .ensures fields top f h)
-    (rw (score-noted f top n (s .pre .0 .order-to) h .1) (score .ensures))
-    (weight .ensures fields top f h)
-    (c .before .before .before .and-also .ensures ∙ rw (c .before .before .before .before .before .is-score .ensures, c .before .before .before .before .is-score2 .ensures, p, q))
-    (rw (p, q) at (put .0))
-    (put .1 .0), put .1 .1)
+    let put = c .before .put-row .ensures in (
+      λ fields top f h.
+          row-is (s .args .list .now) (ngramOf n fields) (c .before .put-row .result) (c .before .put-row .last .0)
+          (sym (k .before .is-passed-over .ensures fields top f h) ∙ k .if1 .left)
+          (sym (e .before .is-unknown .ensures fields f) ∙ e .if2 .left)
+          (w .words-of .ensures fields top f h)
+          (rw (score-noted f top n (s .pre .0 .order-to) h .1) (score .ensures))
+          (weight .ensures fields top f h)
+          (c .before .before .before .and-also .ensures ∙ rw (c .before .before .before .before .before .is-score .ensures, c .before .before .before .before .is-score2 .ensures, p, q))
+          (rw (p, q) at (put .0))
+          (put .1 .0),
+      put .1 .1,
+    )
 
 pub read-gram-spec : {M : Type 1} → statement M
 read-gram-spec =
