@@ -33,7 +33,7 @@ unfolding surveyFrom
 survey-++ acc [] ys = refl
 survey-++ acc (x ∷ xs) ys = survey-++ (withLine acc x) xs ys
 
-tally-++ : (tally : List ℕ) (xs ys : List (List ℤ)) → tallyFrom tally (xs ++ ys) ≡ tallyFrom (tallyFrom tally xs) ys
+pub tally-++ : (tally : List ℕ) (xs ys : List (List ℤ)) → tallyFrom tally (xs ++ ys) ≡ tallyFrom (tallyFrom tally xs) ys
 unfolding tallyFrom
 tally-++ tally [] ys = refl
 tally-++ tally (x ∷ xs) ys = tally-++ (withKind tally x) xs ys

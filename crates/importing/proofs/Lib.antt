@@ -4,3 +4,4 @@ pub mod Walks
 pub mod Carrying
 pub mod Noting
 pub mod Putting
+pub mod Judging
