@@ -1,18 +1,22 @@
 -- What the n-grams answer to 24 and 25, and what the longer book answers to its questions, from what was noted of both.
-use Prim.Native.Nat.{ℕ, suc, _+_, _-_, _*_, _≤_}
+use Prim.Native.Nat.{ℕ, suc, _+_, _-_, _*_, _^_, _≤_, _<_}
 use mathlib.Core.Path.{_≡_, refl, sym, ap, _∙_}
 use mathlib.Core.Bool.{Bool, true, false, _&&_, cond, and-true}
 use mathlib.Core.List.{List, [], _∷_, _++_, map}
 use native.Mathlib.Omega.{arith}
-use borrow.Author.Tests.{leb-true}
-use lib.Dec.{leb}
-use lib.IntN.{ℤ, pos}
+use borrow.Author.Tests.{leb-true, eqb-true, eqb-false}
+use lib.Dec.{eqb, leb}
+use lib.IntN.{ℤ, pos, negℤ}
 use lib.ListN.{length, getD, drop, length-append, length-drop}
+use Rattle.laws.specs.Bits.{one}
 use Rattle.laws.specs.Lists.{all, keep, count, concat}
 use Rattle.laws.proofs.Lists.{count-++, count-cons}
 use Rattle.laws.proofs.Tests.{both, both-of, by-test}
-use Rattle.meaning.specs.Questions.{_unless_, _orelse_}
-use Rattle.meaning.specs.Book.{InList, gramsMost, numberAt, isScore, isKind, isT, isU, isD, isWhole, isInRange, isNotTooLong, isCounted, linesRefusal, loadedLines, bookRefusal, withCounts}
+use Rattle.laws.specs.Integers.{eqℤ}
+use Rattle.laws.proofs.Linear.{signed}
+use Rattle.meaning.specs.Questions.{_unless_, _orelse_, withinℤ}
+use Rattle.meaning.specs.Bounds.{penaltyMost}
+use Rattle.meaning.specs.Book.{InList, phrasesMost, gramsMost, numberAt, isScore, isWeight, isKind, isT, isU, isD, isWhole, isInRange, isNotTooLong, isCounted, linesRefusal, loadedLines, bookRefusal, withCounts}
 use Rattle.meaning.proofs.Chains.{first-passes, rest-passes, test-passes}
 use Rattle.meaning.proofs.Ranges.{Passed, lines-passed}
 use Rattle.meaning.proofs.Revised.{bRecord, passed-ind}
@@ -21,7 +25,7 @@ use Rattle.book.specs.declared.survey.Survey.{Survey}
 use Rattle.book.specs.Survey.{fresh, withLine, surveyFrom, tallySize, noTally, withKind, tallyFrom, gramCount, linesMost, Few}
 use Rattle.book.specs.Grams.{gramsFrom}
 use Rattle.book.proofs.Counts.{few-none, few-line, few-more, tally-is}
-use Rattle.arpa.specs.File.{Ngram, ngramsOf, isUnknown}
+use Rattle.arpa.specs.File.{Ngram, isArpa}
 use Rattle.arpa.specs.Words.{wordNumber}
 use Rattle.arpa.specs.Import.{isImported, importedOf, lineOf, importedLine, importedLines, unknownOf, unseenBy, longerLines, areKnown, areScores}
 use Rattle.arpa.proofs.Ngrams.{isSized, sized-ind, imported-sized}
@@ -31,7 +35,9 @@ use Rattle.importing.specs.declared.model.Model.{Model}
 use Rattle.importing.specs.declared.import.Longer.{Longer as Found}
 use Rattle.importing.specs.Walk.{ngramsAt}
 use Rattle.importing.specs.Model.{areKnownIn, areScoresIn, linesIn, begun, unseenFrom, IsRoom, Imports}
-use Rattle.importing.specs.Import.{Opened, modelRefusal, textsRefusal, countsIn, AreSince, sizeSince, longerOf, judgeRefusal, LongerIs}
+use Rattle.meaning.specs.declared.Checked.{Checked}
+use Rattle.loading.specs.Loaded.{refusalOf}
+use Rattle.importing.specs.Import.{Opened, LongerChecked, modelRefusal, textsRefusal, countsIn, AreSince, sizeSince, longerOf, judgeRefusal, LongerIs}
 use Rattle.importing.proofs.Joined.{Joined, joined-whole, tally-++}
 use Rattle.importing.proofs.Walks.{ngrams-few}
 
@@ -76,3 +82,151 @@ few-lines s tally n (line ∷ lines) f = few-more (few-lines (withLine s line) (
 ngrams-room : (text : List ℕ) (c : Cursor) → 4 * length (ngramsAt text c) ≤ suc (length text)
 unfolding ngramsAt
 ngrams-room text c = omega (arith, ngrams-few (c .top) (c .order) (drop (c .at) text), length-drop (c .at) text)
+
+-- of a text so long that its places fit their type
+pub room-none : (text : List ℕ) (c : Cursor) → length text < 2 ^ 64 → IsRoom text c fresh noTally
+room-none text c h = record { most = 0; few = few-none; room = omega (arith, ngrams-room text c) }
+
+pub room-lines : (text : List ℕ) (c : Cursor) (lines : List (List ℤ)) → length text < 2 ^ 64 → Passed InList lines → IsRoom text c (surveyFrom fresh lines) (tallyFrom noTally lines)
+room-lines text c lines h p = record { most = 0 + length lines; few = few-lines fresh noTally 0 lines few-none; room = omega (arith, ngrams-room text c, passed-few InList lines p) }
+
+-- ════ the imported lines
+
+-- 4 numbers of a U, 5 of a D and of a T line
+module _ (list : List ℕ) where
+  line-size : (g : Ngram) → isSized g ≡ true → length (importedLine list g) ≡ 4 * one (isU (importedLine list g)) + 5 * one (isD (importedLine list g)) + 5 * one (isT (importedLine list g))
+  unfolding importedLine
+  line-size g h = sized-ind (λ words. length (lineOf (map (wordNumber list) words) (g .score) (g .weight)) ≡ 4 * one (isU (lineOf (map (wordNumber list) words) (g .score) (g .weight))) + 5 * one (isD (lineOf (map (wordNumber list) words) (g .score) (g .weight))) + 5 * one (isT (lineOf (map (wordNumber list) words) (g .score) (g .weight)))) (λ y. refl) (λ w y. refl) (λ v w y. refl) (g .words) h
+
+  lines-size : (gs : List Ngram) → all isSized gs ≡ true
+      → length (concat (map (importedLine list) gs)) ≡ 4 * count isU (map (importedLine list) gs) + 5 * count isD (map (importedLine list) gs) + 5 * count isT (map (importedLine list) gs)
+  lines-size [] h = refl
+  lines-size (g ∷ gs) h =
+      let b = both (isSized g) (all isSized gs) h in
+      let line = importedLine list g in
+      let rest = map (importedLine list) gs in
+      omega (arith, line-size g (b .0), lines-size gs (b .1), length-append line (concat rest), count-cons isU line rest, count-cons isD line rest, count-cons isT line rest)
+
+imported-size : (text list : List ℕ) → isArpa text ≡ true
+    → length (concat (importedLines text list)) ≡ 4 * count isU (importedLines text list) + 5 * count isD (importedLines text list) + 5 * count isT (importedLines text list)
+unfolding importedLines
+imported-size text list a = lines-size list (importedOf text) (imported-sized text a)
+
+-- ════ the longer book
+
+-- the u of a book that passes
+u-score : (lines : List (List ℤ)) → Passed InList lines → isScore (numberAt (getD lines 0 []) 3) ≡ true
+unfolding isInRange
+u-score = passed-ind (λ lines. isScore (numberAt (getD lines 0 []) 3) ≡ true) (λ d eta u rest p. both (withinℤ (pos 0) (pos 32) d && withinℤ (negℤ (pos penaltyMost)) (pos penaltyMost) eta) (isScore u) (both (isInRange (bRecord d eta u rest)) (all isInRange rest) (p .ranged) .0) .1)
+
+-- its u is a score
+unseen-score : (text list : List ℕ) (lines : List (List ℤ)) → areScores text ≡ true → Passed InList lines → isScore (unseenOf text list (numberAt (getD lines 0 []) 3)) ≡ true
+unfolding areScores
+unseen-score text list lines h p =
+    by (unknownOf text) (both (all (λ g. isScore (g .score) && isWeight (g .weight)) (importedOf text)) (all (λ g. isScore (g .score)) (unknownOf text)) h .1)
+  where
+    first : isScore (numberAt (getD lines 0 []) 3) ≡ true
+    first = u-score lines p
+
+    by : (gs : List Ngram) → all (λ g. isScore (g .score)) gs ≡ true → isScore (unseenBy gs (numberAt (getD lines 0 []) 3)) ≡ true
+    by [] k = first
+    by (g ∷ gs) k = both (isScore (g .score)) (all (λ g. isScore (g .score)) gs) k .0
+
+-- its n-grams of each kind are those of the book and the imported ones
+counts-longer : (text list : List ℕ) (k : ℕ) → 3 ≤ k → k ≤ 5 → (lines : List (List ℤ)) → Passed InList lines → count (isKind k) (withCounts (longerLines text list lines)) ≡ count (isKind k) (lines ++ importedLines text list)
+unfolding longerLines
+counts-longer text list k a b = passed-ind (λ lines. count (isKind k) (withCounts (longerLines text list lines)) ≡ count (isKind k) (lines ++ importedLines text list)) (λ d eta u rest p. rw not-b refl)
+  where
+    not-b : eqℤ (pos 1) (pos k) ≡ false
+    not-b = omega (arith, signed)
+
+-- no more of each kind of n-gram than question 5 allows
+few-kind : (lines : List (List ℤ)) → isNotTooLong lines ≡ true → (k : ℕ) → 3 ≤ k → k ≤ 5 → count (isKind k) lines ≤ gramsMost
+unfolding isNotTooLong
+few-kind lines h k lo hi =
+    let t : Bool = leb (count (isKind 3) lines) gramsMost in
+    let u : Bool = leb (count (isKind 4) lines) gramsMost in
+    let d : Bool = leb (count (isKind 5) lines) gramsMost in
+    let a = both (leb (count (isKind 2) lines) phrasesMost) (t && (u && (d && true))) h .1 in
+    let b = both u (d && true) (both t (u && (d && true)) a .1) in
+    by-test (eqb k 3)
+    (λ e. rw (eqb-true k 3 e) (leb-true (count (isKind 3) lines) gramsMost (both t (u && (d && true)) a .0)))
+    (λ n. by-test (eqb k 4)
+      (λ e. rw (eqb-true k 4 e) (leb-true (count (isKind 4) lines) gramsMost (b .0)))
+      (λ m.
+        let five : k ≡ 5 = omega (arith, eqb-false k 3 n, eqb-false k 4 m) in
+        rw five (leb-true (count (isKind 5) lines) gramsMost (both d true (b .1) .0))))
+
+-- ════ a book that its own questions pass, surveyed, and then the n-grams
+
+pub record BookSurveyed (book : List ℤ) (index₀ index tally : List ℕ) (s : Survey) : Type 0 where
+  pub refusal : bookRefusal book ≡ 0
+  pub survey-is : s ≡ surveyFrom fresh (loadedLines book)
+  pub tally-is : tally ≡ tallyFrom noTally (loadedLines book)
+  pub index-is : index ≡ gramsFrom index₀ 0 (loadedLines book)
+
+module _ {text list : List ℕ} {c : Cursor} (o : Opened text c) {book : List ℤ} {index₀ index₁ tally₁ : List ℕ} {s : Survey} (b : BookSurveyed book index₀ index₁ tally₁ s)
+    {m : Model} {index tally : List ℕ} (i : Imports text list c s index₁ tally₁ m index tally) where
+  abbrev lines : List (List ℤ)
+  lines = loadedLines book
+
+  abbrev more : List (List ℤ)
+  more = importedLines text list
+
+  passed : Passed InList lines
+  unfolding bookRefusal
+  passed = lines-passed InList lines (b .refusal)
+
+  refusal-longer : bookRefusal (longerOf text list book) ≡ linesRefusal InList (withCounts (longerLines text list lines))
+  refusal-longer = longer-refusal text list lines (longer text list (o .arpa) lines passed)
+
+  -- both are known together
+  joined : m .ranged ≡ true → Joined lines more index₀ index tally (m .survey)
+  joined h = record {
+    surveyed = survey-texts o i h ∙ rw (b .survey-is) refl;
+    tallied = tally-texts o i h ∙ rw (b .tally-is) refl;
+    gathered = grams-texts o i h ∙ rw (b .tally-is, b .index-is) refl;
+  }
+
+  -- so the questions of the longer book are asked
+  pub judged : (r : Checked) → LongerChecked m index tally r → refusalOf r ≡ judgeRefusal text list book
+  judged r said =
+      said (withCounts (longerLines text list lines)) index₀
+      (λ h. joined-whole text list (o .arpa) index₀ index tally (m .survey) lines passed (unseen-score text list lines (sym (ranged-texts o i) ∙ h) passed) (joined h))
+      ∙ ap (λ (k : ℕ). k orelse linesRefusal InList (withCounts (longerLines text list lines))) (refusal-texts o i)
+      ∙ ap (λ (k : ℕ). textsRefusal text list orelse k) (sym refusal-longer ∙ sym (ap (λ (k : ℕ). k orelse bookRefusal (longerOf text list book)) (b .refusal)))
+
+  -- where none refuses, what the longer book has
+  module _ (passes : judgeRefusal text list book ≡ 0) where
+    ranged : m .ranged ≡ true
+    ranged = ranged-texts o i ∙ test-passes 24 (areScores text) (rest-passes (24 unless areKnown text list) (25 unless areScores text) (first-passes (textsRefusal text list) _ passes))
+
+    longer-passed : Passed InList (withCounts (longerLines text list lines))
+    longer-passed = lines-passed InList (withCounts (longerLines text list lines)) (sym refusal-longer ∙ rest-passes (bookRefusal book) _ (rest-passes (textsRefusal text list) _ passes))
+
+    counted : (k : ℕ) → 3 ≤ k → k ≤ 5 → (getD tally₁ k 0 ≡ count (isKind k) lines) × (getD tally k 0 ≡ count (isKind k) lines + count (isKind k) more)
+    counted k lo hi =
+        (ap (λ (t : List ℕ). getD t k 0) (b .tally-is) ∙ tally-is k (omega arith) hi lines,
+        ap (λ (t : List ℕ). getD t k 0) (joined ranged .tallied ∙ sym (tally-++ noTally lines more)) ∙ tally-is k (omega arith) hi (lines ++ more) ∙ count-++ (isKind k) lines more)
+
+    few : (k : ℕ) → 3 ≤ k → k ≤ 5 → getD tally k 0 ≤ gramsMost
+    few k lo hi = omega (arith, few-kind (withCounts (longerLines text list lines)) (longer-passed .short) k lo hi, counts-longer text list k lo hi lines passed, count-++ (isKind k) lines more, counted k lo hi .1)
+
+    pub since : AreSince (countsIn tally₁) (countsIn tally)
+    since = record {
+      words-from = omega (arith, counted 4 (omega arith) (omega arith) .0, counted 4 (omega arith) (omega arith) .1);
+      pairs-from = omega (arith, counted 5 (omega arith) (omega arith) .0, counted 5 (omega arith) (omega arith) .1);
+      triples-from = omega (arith, counted 3 (omega arith) (omega arith) .0, counted 3 (omega arith) (omega arith) .1);
+      words-to = few 4 (omega arith) (omega arith);
+      pairs-to = few 5 (omega arith) (omega arith);
+      triples-to = few 3 (omega arith) (omega arith);
+    }
+
+    pub found : LongerIs text list book (record { unknown = m .unknown; unseen = m .unseen; triples = getD tally 3 0; size = sizeSince (countsIn tally₁) (countsIn tally) })
+    found = record {
+      passes = passes;
+      unseen-is = unseen-texts o i ranged;
+      triples-are = counted 3 (omega arith) (omega arith) .1 ∙ sym (count-++ isT lines more);
+      triples-few = few 3 (omega arith) (omega arith);
+      size-is = omega (arith, imported-size text list (o .arpa), counted 3 (omega arith) (omega arith) .0, counted 3 (omega arith) (omega arith) .1, counted 4 (omega arith) (omega arith) .0, counted 4 (omega arith) (omega arith) .1, counted 5 (omega arith) (omega arith) .0, counted 5 (omega arith) (omega arith) .1);
+    }
