@@ -11,19 +11,22 @@ use lib.ListN.{length, getD, drop, length-append, length-drop}
 use Rattle.laws.specs.Bits.{one}
 use Rattle.laws.specs.Lists.{all, keep, count, concat}
 use Rattle.laws.proofs.Lists.{count-++, count-cons}
-use Rattle.laws.proofs.Tests.{both, both-of, by-test}
+use Rattle.laws.proofs.Tests.{both, both-of, by-test, clash}
 use Rattle.laws.specs.Integers.{eqℤ}
 use Rattle.laws.proofs.Linear.{signed}
-use Rattle.meaning.specs.Questions.{_unless_, _orelse_, withinℤ}
+use Rattle.meaning.specs.Questions.{_unless_, _orelse_, withinℤ, number}
 use Rattle.meaning.specs.Bounds.{penaltyMost}
-use Rattle.meaning.specs.Book.{InList, phrasesMost, gramsMost, numberAt, isScore, isWeight, isKind, isT, isU, isD, isWhole, isInRange, isNotTooLong, isCounted, linesRefusal, loadedLines, bookRefusal, withCounts}
+use Rattle.meaning.specs.Book.{InList, phrasesMost, gramsMost, numberAt, isScore, isWeight, isKind, isT, isU, isD, Book, isWhole, isInRange, isNotTooLong, isCounted, linesRefusal, loadedLines, bookRefusal, withCounts}
 use Rattle.meaning.proofs.Chains.{first-passes, rest-passes, test-passes}
+use Rattle.meaning.proofs.Numbered.{number-from, refused-first}
 use Rattle.meaning.proofs.Ranges.{Passed, lines-passed}
 use Rattle.meaning.proofs.Revised.{bRecord, passed-ind}
 use Rattle.meaning.proofs.Sizes.{passed-few}
 use Rattle.book.specs.declared.survey.Survey.{Survey}
 use Rattle.book.specs.Survey.{fresh, withLine, surveyFrom, tallySize, noTally, withKind, tallyFrom, gramCount, linesMost, Few}
 use Rattle.book.specs.Grams.{gramsFrom}
+use Rattle.book.specs.declared.loaded.Surveyed.the-variants.{Whole}
+use Rattle.book.specs.Loaded.{SurveyOf}
 use Rattle.book.proofs.Counts.{few-none, few-line, few-more, tally-is}
 use Rattle.arpa.specs.File.{Ngram, isArpa}
 use Rattle.arpa.specs.Words.{wordNumber}
@@ -36,7 +39,10 @@ use Rattle.importing.specs.declared.import.Longer.{Longer as Found}
 use Rattle.importing.specs.Walk.{ngramsAt}
 use Rattle.importing.specs.Model.{areKnownIn, areScoresIn, linesIn, begun, unseenFrom, IsRoom, Imports}
 use Rattle.meaning.specs.declared.Checked.{Checked}
-use Rattle.loading.specs.Loaded.{refusalOf}
+use Rattle.meaning.specs.declared.Refusal.{Refusal}
+use Rattle.loading.specs.declared.load.Loaded.{Loaded}
+use Rattle.loading.specs.declared.load.Loaded.the-variants.{Book as Passes, Refused}
+use Rattle.loading.specs.Loaded.{refusalOf, Answered, replied}
 use Rattle.importing.specs.Import.{Opened, LongerChecked, modelRefusal, textsRefusal, countsIn, AreSince, sizeSince, longerOf, judgeRefusal, LongerIs}
 use Rattle.importing.proofs.Joined.{Joined, joined-whole, tally-++}
 use Rattle.importing.proofs.Walks.{ngrams-few}
@@ -230,3 +236,30 @@ module _ {text list : List ℕ} {c : Cursor} (o : Opened text c) {book : List �
       triples-few = few 3 (omega arith) (omega arith);
       size-is = omega (arith, imported-size text list (o .arpa), counted 3 (omega arith) (omega arith) .0, counted 3 (omega arith) (omega arith) .1, counted 4 (omega arith) (omega arith) .0, counted 4 (omega arith) (omega arith) .1, counted 5 (omega arith) (omega arith) .0, counted 5 (omega arith) (omega arith) .1);
     }
+
+-- ════ the answers of code
+
+-- an answer without what a search needs is its refusal
+pub answered-refusal : (refusal : ℕ) (book : Book) (index : List ℕ) (r : Loaded) → Answered refusal book index r → refusalOf (replied r) ≡ refusal
+answered-refusal refusal book index (Passes grams) a = sym (a .passes)
+answered-refusal refusal book index (Refused q) a = sym a
+
+-- where 24 and 25 pass, the values are in a score's range
+pub model-ranged : (m : Model) → modelRefusal m ≡ 0 → m .ranged ≡ true
+model-ranged m e = test-passes 24 (m .ranged) (rest-passes (24 unless m .known) (25 unless m .ranged) e)
+
+-- a refusal stands, whatever is asked after it
+pub refused-stands : (q : Refusal) (k m : ℕ) → number q ≡ k → number q ≡ k orelse m
+refused-stands q k m e = sym (refused-first (number q) m (number-from q)) ∙ ap (λ (j : ℕ). j orelse m) e
+
+-- the survey of a book that passes is whole
+pub surveyed-whole : (book : List ℤ) {index₀ index tally : List ℕ} {s : Survey} → bookRefusal book ≡ 0 → SurveyOf book index₀ index tally (Whole s) → BookSurveyed book index₀ index tally s
+surveyed-whole book e w = record { refusal = e; survey-is = w .1; tally-is = w .2; index-is = w .3 }
+
+pub not-broken : (book : List ℤ) → bookRefusal book ≡ 0 → all (isWhole InList) (loadedLines book) ≡ false → ⊥
+unfolding bookRefusal
+not-broken book e f = clash (lines-passed InList (loadedLines book) e .whole) f
+
+pub room-book : {text : List ℕ} {c : Cursor} {book : List ℤ} {index₀ index tally : List ℕ} {s : Survey} → BookSurveyed book index₀ index tally s → length text < 2 ^ 64 → IsRoom text c s tally
+unfolding bookRefusal
+room-book {text} {c} {book} b h = rw (b .survey-is, b .tally-is) (room-lines text c (loadedLines book) h (lines-passed InList (loadedLines book) (b .refusal)))

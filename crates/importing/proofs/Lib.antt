@@ -5,3 +5,4 @@ pub mod Carrying
 pub mod Noting
 pub mod Putting
 pub mod Judging
+pub mod Replies

@@ -1,3 +1,12 @@
+-- The caller's book is asked before the longer one.
+use Prim.Native.Nat.{ℕ}
+use mathlib.Core.Path.{_≡_, refl, sym, ap, _∙_}
+use Rattle.meaning.specs.Questions.{_orelse_, number}
+use Rattle.meaning.specs.Book.{bookRefusal}
+use Rattle.loading.specs.Loaded.{refusalOf}
+use Rattle.loading.proofs.Replies.{check-number}
+use Rattle.revising.proofs.Replies.{refused-in-use}
+use Rattle.importing.specs.Import.{textsRefusal, longerOf}
 use borrow.Author.Needs.{needs}
 use Rattle.importing.proofs.import.judge.Statement.{statement}
 use Rattle.importing.proofs.import.judge.Tie as tie
@@ -7,33 +16,32 @@ use Rattle.importing.proofs.import.judge_longer.Reads as judge-longer-r
 use Rattle.importing.proofs.import.refuse_book.Reads as refuse-book-reads
 use Rattle.loading.proofs.check.check_book.Reads as check-book-reads
 
--- src/import.rt:169:11
 check-book-requires : tie.Need-check-book-requires
 check-book-requires c κs = search needs
 
--- src/import.rt:170:28
 enum-told : tie.Need-enum-told
 enum-told c = search needs
 
--- src/import.rt:170:28
 judge-longer-requires : tie.Need-judge-longer-requires
-judge-longer-requires c κs = ?
+judge-longer-requires c κs = let s = c .before .before .before .before .before .before .before in let k = c .before .before .check-book in (s .pre .0, (s .pre .1, check-number (s .args .book .now) (k .result) (k .ensures) ∙ ap refusalOf (c .enum-told .given .1)))
 
--- src/import.rt:171:26
 enum-known-refusal : tie.Need-enum-known-refusal
 enum-known-refusal c = search needs
 
--- src/import.rt:172:29
 refuse-book-requires : tie.Need-refuse-book-requires
 refuse-book-requires c κs = search needs
 
--- src/import.rt:164:1
 returns : tie.Need-returns
 returns c = search needs
 
--- src/import.rt:164:1
 returns-2 : tie.Need-returns-2
-returns-2 c = ?
+returns-2 c = 
+    let s = c .before .before .before .before .before .before .before .before .before in
+    let k = c .before .before .before .before .check-book in
+    let q = c .before .before .refusal .given .0 .0 in
+    let e = check-number (s .args .book .now) (k .result) (k .ensures) ∙ ap refusalOf (c .before .before .refusal .given .1) in
+    ap (λ (j : ℕ). textsRefusal (s .args .text .now) (s .args .list .now) orelse j) (refused-in-use q (bookRefusal (s .args .book .now)) (bookRefusal (longerOf (s .args .text .now) (s .args .list .now) (s .args .book .now))) e)
+    ∙ sym (c .refuse-book .ensures)
 
 pub judge-spec : {M : Type 1} → statement M
 judge-spec =

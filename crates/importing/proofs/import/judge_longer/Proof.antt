@@ -1,3 +1,10 @@
+-- The survey of the book is carried on over the imported lines, and is that of the longer book (Judging).
+use mathlib.Core.Path.{_≡_, refl, sym, ap, _∙_}
+use native.Mathlib.Omega.{arith}
+use mir.Syntax.{w32}
+use mir.Val.{toZ, ofZ}
+use Rattle.loading.specs.Loaded.{refusalOf}
+use Rattle.importing.proofs.Judging.{surveyed-whole, not-broken, room-book, judged, since, found}
 use borrow.Author.Needs.{needs}
 use Rattle.importing.proofs.import.judge_longer.Statement.{statement}
 use Rattle.importing.proofs.import.judge_longer.Tie as tie
@@ -9,89 +16,95 @@ use Rattle.importing.proofs.import.counts_of.Reads as counts-of-reads
 use Rattle.importing.proofs.import.size_since.Reads as size-since-reads
 use Rattle.importing.proofs.model.note_model.Reads as note-model-reads
 
--- src/import.rt:143:48
 slice-aggregate-survey-loaded : tie.Need-slice-aggregate-survey-loaded
 slice-aggregate-survey-loaded c = search needs
 
--- src/import.rt:143:60
 slice-aggregate-survey-loaded-2 : tie.Need-slice-aggregate-survey-loaded-2
 slice-aggregate-survey-loaded-2 c = search needs
 
--- src/import.rt:143:9
 survey-loaded-requires : tie.Need-survey-loaded-requires
 survey-loaded-requires c κs = search needs
 
--- src/import.rt:144:25
 enum-known-surveyed : tie.Need-enum-known-surveyed
 enum-known-surveyed c = search needs
 
--- src/import.rt:145:32
 enum-told : tie.Need-enum-told
 enum-told c = search needs
 
--- src/import.rt:145:9
 returns : tie.Need-returns
-returns c = ?
+returns c = absurd (not-broken (c .before .before .before .before .before .before .before .before .before .before .before .args .book .now) (c .before .before .before .before .before .before .before .before .before .before .before .pre .1 .1) (rw (c .enum-told .given .1) at (c .before .before .before .before .survey-loaded .ensures)))
 
--- src/import.rt:147:28
 slice-aggregate-counts-of : tie.Need-slice-aggregate-counts-of
 slice-aggregate-counts-of c = search needs
 
--- src/import.rt:147:9
 counts-of-requires : tie.Need-counts-of-requires
 counts-of-requires c κs = search needs
 
--- src/import.rt:148:70
 slice-aggregate-note-model : tie.Need-slice-aggregate-note-model
 slice-aggregate-note-model c = search needs
 
--- src/import.rt:148:82
 slice-aggregate-note-model-2 : tie.Need-slice-aggregate-note-model-2
 slice-aggregate-note-model-2 c = search needs
 
--- src/import.rt:148:9
 note-model-requires : tie.Need-note-model-requires
-note-model-requires c κs = ?
+note-model-requires c κs =
+    let s = c .before .before .before .before .before .before .before .before .before .before .before .before .before .before .before .before in
+    let k = c .before .before .before .before .before .before .before .before .before .survey-loaded in
+    let b = surveyed-whole (s .args .book .now) (s .pre .1 .1) (rw (c .before .before .before .before .before .surveyed .given .1) at (k .ensures)) in
+    (s .pre .0 .walking, (s .pre .1 .0, room-book b (omega arith)))
 
--- src/import.rt:149:31
 slice-aggregate-check-longer : tie.Need-slice-aggregate-check-longer
 slice-aggregate-check-longer c = search needs
 
--- src/import.rt:149:43
 slice-aggregate-check-longer-2 : tie.Need-slice-aggregate-check-longer-2
 slice-aggregate-check-longer-2 c = search needs
 
--- src/import.rt:149:11
 check-longer-requires : tie.Need-check-longer-requires
 check-longer-requires c κs = search needs
 
--- src/import.rt:151:35
 enum-told-2 : tie.Need-enum-told-2
 enum-told-2 c = search needs
 
--- src/import.rt:151:35
 slice-aggregate-counts-of-2 : tie.Need-slice-aggregate-counts-of-2
 slice-aggregate-counts-of-2 c = search needs
 
--- src/import.rt:151:17
 counts-of-requires-2 : tie.Need-counts-of-requires-2
 counts-of-requires-2 c κs = search needs
 
--- src/import.rt:156:23
 size-since-requires : tie.Need-size-since-requires
-size-since-requires c κs = ?
+size-since-requires c κs =
+    let s = c .before .before .before .before .before .before .before .before .before .before .before .before .before .before .before .before .before .before .before .before .before .before .before .before .before .before .before in
+    let k = c .before .before .before .before .before .before .before .before .before .before .before .before .before .before .before .before .before .before .before .before .survey-loaded in
+    let b = surveyed-whole (s .args .book .now) (s .pre .1 .1) (rw (c .before .before .before .before .before .before .before .before .before .before .before .before .before .before .before .before .surveyed .given .1) at (k .ensures)) in
+    let i = c .before .before .before .before .before .before .before .before .before .before .note-model .ensures in
+    let k = c .before .before .before .before .before .check-longer in
+    let e = judged (s .pre .0) b i (k .result) (k .ensures) in
+    rw (c .before .before .before .before .before .before .before .before .before .before .before .before .before .counts-of .ensures, c .counts-of2 .ensures) (since (s .pre .0) b i (sym e ∙ ap refusalOf (c .before .before .enum-told2 .given .1)))
 
--- src/import.rt:159:26
 enum-known-refusal : tie.Need-enum-known-refusal
 enum-known-refusal c = search needs
 
--- src/import.rt:135:1
 returns-2 : tie.Need-returns-2
-returns-2 c = ?
+returns-2 c =
+    let s = c .before .before .before .before .before .before .before .before .before .before .before .before .before .before .before .before .before .before .before .before .before .before .before .before .before .before .before .before .before in
+    let k = c .before .before .before .before .before .before .before .before .before .before .before .before .before .before .before .before .before .before .before .before .before .before .survey-loaded in
+    let b = surveyed-whole (s .args .book .now) (s .pre .1 .1) (rw (c .before .before .before .before .before .before .before .before .before .before .before .before .before .before .before .before .before .before .surveyed .given .1) at (k .ensures)) in
+    let i = c .before .before .before .before .before .before .before .before .before .before .before .before .note-model .ensures in
+    let k = c .before .before .before .before .before .before .before .check-longer in
+    let e = judged (s .pre .0) b i (k .result) (k .ensures) in
+    let m = c .before .before .before .before .before .before .before .before .before .before .before .before .note-model .result in
+    let p : toZ w32 (ofZ w32 (m .unseen)) ≡ m .unseen = search needs in
+    rw (p, c .before .size-since .ensures, c .before .before .before .before .before .before .before .before .before .before .before .before .before .before .before .counts-of .ensures, c .before .before .counts-of2 .ensures) (found (s .pre .0) b i (sym e ∙ ap refusalOf (c .before .before .before .before .enum-told2 .given .1)))
 
--- src/import.rt:135:1
 returns-3 : tie.Need-returns-3
-returns-3 c = ?
+returns-3 c =
+    let s = c .before .before .before .before .before .before .before .before .before .before .before .before .before .before .before .before .before .before .before .before .before .before .before .before .before .before in
+    let k = c .before .before .before .before .before .before .before .before .before .before .before .before .before .before .before .before .before .before .before .survey-loaded in
+    let b = surveyed-whole (s .args .book .now) (s .pre .1 .1) (rw (c .before .before .before .before .before .before .before .before .before .before .before .before .before .before .before .surveyed .given .1) at (k .ensures)) in
+    let i = c .before .before .before .before .before .before .before .before .before .note-model .ensures in
+    let k = c .before .before .before .before .check-longer in
+    let e = judged (s .pre .0) b i (k .result) (k .ensures) in
+    sym e ∙ ap refusalOf (c .before .refusal .given .1)
 
 pub judge-longer-spec : {M : Type 1} → statement M
 judge-longer-spec =
