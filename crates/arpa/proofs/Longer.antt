@@ -1,23 +1,22 @@
 -- The longer book: its lines are those of the caller's book, with u and the counts that it is to have, and the imported ones.
-use Prim.Native.Nat.{ℕ, _+_, _≤_}
-use mathlib.Core.Path.{_≡_, refl, sym, ap, _∙_}
-use mathlib.Core.Bool.{Bool, true, false, not, _&&_, cond}
-use mathlib.Core.List.{List, [], _∷_, _++_, map, append-assoc}
+use Prim.Native.Nat.{ℕ}
+use mathlib.Core.Path.{_≡_, refl, ap, _∙_}
+use mathlib.Core.Bool.{Bool, true, not}
+use mathlib.Core.List.{List, [], _∷_, _++_, map}
 use native.Mathlib.Omega.{arith}
 use borrow.Author.Tests.{eqb-true}
 use lib.IntN.{ℤ, pos}
-use lib.ListN.{length, set}
-use Rattle.laws.specs.Lists.{all, count, keep, concat}
+use lib.ListN.{set}
+use Rattle.laws.specs.Lists.{all, count, concat}
 use Rattle.laws.proofs.Lists.{all-++, concat-++, count-++, count-none, not-any}
-use Rattle.laws.proofs.Tests.{both, both-of, clash}
-use Rattle.meaning.specs.Questions.{within}
+use Rattle.laws.proofs.Tests.{both, both-of}
 use Rattle.meaning.specs.Book.{InList, numberAt, isP, isT, sizeOf, isWhole, orderOf, isGram, linesRefusal, loadedLines, bookRefusal, withCounts, loadedBook}
 use Rattle.meaning.proofs.Loaded.{loaded-lines}
 use Rattle.meaning.proofs.Ranges.{Passed}
 use Rattle.meaning.proofs.Revised.{bRecord, passed-ind}
 use Rattle.arpa.specs.File.{Ngram, isArpa}
 use Rattle.arpa.specs.Words.{wordNumber}
-use Rattle.arpa.specs.Import.{lineOf, importedLine, importedOf, importedLines, unknownOf, unseenBy, withUnseen, longerLines}
+use Rattle.arpa.specs.Import.{lineOf, importedLine, importedOf, importedLines, unknownOf, unseenBy, longerLines}
 use Rattle.arpa.proofs.Ngrams.{isSized, sized-ind, imported-sized}
 
 -- ════ the imported lines

@@ -1,17 +1,17 @@
 -- Ticket 6: "where the caller's book had no such lines, scoring them equals scoring the file's own rounded values, less those passed over, by ARPA's
 -- back-off rule, with u for a word that has no unigram" (`imported-score`).
 use Prim.Native.Nat.{ℕ, _≤_}
-use mathlib.Core.Path.{_≡_, refl, sym, ap, _∙_}
-use mathlib.Core.Bool.{Bool, true, false, _&&_, cond}
+use mathlib.Core.Path.{_≡_, refl, ap, _∙_}
+use mathlib.Core.Bool.{true}
 use mathlib.Core.List.{List, [], _∷_, _++_, map, map-map}
 use native.Mathlib.Omega.{arith}
 use lib.Dec.{eqb, leb}
-use lib.IntN.{ℤ, pos, _+ℤ_}
+use lib.IntN.{ℤ, pos}
 use lib.ListN.{length, take}
 use Rattle.laws.specs.Lists.{all, keep, eqList}
 use Rattle.laws.proofs.Lists.{keep-++, keep-all, eqList-is}
 use Rattle.laws.proofs.Tests.{both, both-of, by-test}
-use Rattle.meaning.specs.Questions.{_unless_, _orelse_}
+use Rattle.meaning.specs.Questions.{_unless_}
 use Rattle.meaning.specs.Book.{InList, Gram, gramOf, orderOf, isGram, bookOfLines, bookOf, bookRefusal, withCounts}
 use Rattle.meaning.specs.Derivation.{listed, wordScore, pairScore, backedOff, tripleScore}
 use Rattle.meaning.specs.Revision.{linesInUse}
@@ -25,7 +25,7 @@ use Rattle.arpa.specs.Import.{lineOf, importedLine, importedOf, imported
 use Rattle.arpa.specs.BackOff.{ofListed, backOff, unigram, bigram, trigram}
 use Rattle.arpa.proofs.Ngrams.{isSized, sized-ind, imported-sized}
 use Rattle.arpa.proofs.Spelled.{bytes-same, numbers-same}
-use Rattle.arpa.proofs.Longer.{unseenOf, imported-grams, longer-lines, longer}
+use Rattle.arpa.proofs.Longer.{unseenOf, imported-grams, longer}
 
 -- ════ an n-gram's line states the n-gram
 

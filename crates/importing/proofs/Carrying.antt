@@ -1,9 +1,8 @@
 -- One n-gram more: what it adds is carried from those that are left to what is known.
-use Prim.Native.Nat.{ℕ, suc, _+_, _≤_}
-use mathlib.Core.Path.{_≡_, refl, sym, ap, _∙_}
-use mathlib.Core.Bool.{Bool, true, false, not, _&&_, cond, and-assoc}
-use mathlib.Core.List.{List, [], _∷_}
-use native.Mathlib.Omega.{arith}
+use Prim.Native.Nat.{ℕ}
+use mathlib.Core.Path.{_≡_, refl, sym, _∙_}
+use mathlib.Core.Bool.{Bool, true, false, not, _&&_, and-assoc}
+use mathlib.Core.List.{List, _∷_}
 use borrow.Author.Tests.{not-true}
 use lib.IntN.{ℤ}
 use lib.ListN.{length, take}
@@ -14,15 +13,14 @@ use Rattle.book.specs.Survey.{withLine, surveyFrom, tallySize, withKind, tallyF
 use Rattle.book.specs.Grams.{withGram, gramsFrom}
 use Rattle.book.proofs.Counts.{gram-counted}
 use Rattle.arpa.specs.File.{Ngram, isUnknown}
-use Rattle.arpa.specs.Words.{isKnown}
-use Rattle.arpa.specs.Import.{isPassedOver, isImported, importedLine}
+use Rattle.arpa.specs.Import.{isPassedOver, isImported}
 use Rattle.thousandths.specs.Rounded.{Rounded}
 use Rattle.ngram_lines.specs.declared.Row.{Row}
 use Rattle.ngram_lines.specs.declared.Gram.{Gram}
 use Rattle.ngram_lines.specs.declared.Gram.the-variants.{PassedOver, Unknown, Line}
 use Rattle.ngram_lines.specs.Gram.{RowIs, GramIs}
 use Rattle.importing.specs.declared.model.Model.{Model}
-use Rattle.importing.specs.Model.{areKnownIn, areScoresIn, linesIn, withUnknown, RowNoted, Unchanged, NotedAs, Carried, GramFits}
+use Rattle.importing.specs.Model.{areKnownIn, withUnknown, NotedAs, Carried}
 
 pub carried-none : (list : List ℕ) (gs : List Ngram) (m : Model) (index tally : List ℕ) → Carried list gs m index tally gs m index tally
 carried-none list gs m index tally = record { known-is = refl; ranged-is = refl; unseen-is = λ h u. refl; survey-is = λ h. refl; tally-is = λ h. refl; index-is = λ h. refl }
@@ -72,7 +70,7 @@ module _ {list : List ℕ} {gs₀ : List Ngram} {m₀ : Model} {index₀ tally�
 
   carried-line : (row : List ℤ) (made : Row) → length tally ≡ tallySize → RowIs list g row made
       → Carried list gs₀ m₀ index₀ tally₀ gs (record { survey = withLine (m .survey) (take (made .size) row); known = m .known && made .known; ranged = m .ranged && made .ranged; unknown = m .unknown; unseen = m .unseen })
-        (withGram index (gramCount tally) (take (made .size) row)) (withKind tally (take (made .size) row))
+      (withGram index (gramCount tally) (take (made .size) row)) (withKind tally (take (made .size) row))
   unfolding surveyFrom tallyFrom gramsFrom
   carried-line row made long r =
       let i = r .imported in

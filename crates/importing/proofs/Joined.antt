@@ -1,11 +1,11 @@
 -- The survey of a book's lines, carried on over the imported lines, is that of the longer book: its first line differs in u and in the counts alone.
 use Prim.Native.Nat.{ℕ, _+_}
 use mathlib.Core.Path.{_≡_, refl, sym, ap, _∙_}
-use mathlib.Core.Bool.{Bool, true, false, _&&_, cond}
+use mathlib.Core.Bool.{true, _&&_}
 use mathlib.Core.List.{List, [], _∷_, _++_}
 use native.Mathlib.Omega.{arith}
 use lib.IntN.{ℤ, pos, negℤ}
-use lib.ListN.{length, getD}
+use lib.ListN.{getD}
 use Rattle.laws.specs.Bits.{one}
 use Rattle.laws.specs.Lists.{all, count}
 use Rattle.laws.proofs.Lists.{count-cons}
@@ -13,7 +13,7 @@ use Rattle.laws.proofs.Integers.{eqℤ-refl}
 use Rattle.laws.proofs.Tests.{both, both-of}
 use Rattle.meaning.specs.Questions.{withinℤ}
 use Rattle.meaning.specs.Bounds.{penaltyMost}
-use Rattle.meaning.specs.Book.{InList, isP, isT, numberAt, isScore, isWhole, isOneBFirst, isInRange, isCounted, orderOf, isGram, withCounts}
+use Rattle.meaning.specs.Book.{InList, isP, isT, numberAt, isScore, isInRange, isCounted, orderOf, isGram, withCounts}
 use Rattle.meaning.proofs.Ranges.{Passed}
 use Rattle.meaning.proofs.Revised.{bRecord, passed-ind}
 use Rattle.lines.specs.Kinds.{kindOf}
@@ -21,7 +21,7 @@ use Rattle.book.specs.declared.survey.Survey.{Survey}
 use Rattle.book.specs.Survey.{fresh, withLine, surveyFrom, noTally, withKind, tallyFrom, gramCount}
 use Rattle.book.specs.Grams.{withGram, gramsFrom}
 use Rattle.book.proofs.Counts.{grams-counted}
-use Rattle.loading.specs.Loaded.{WholeAs, CountedAs}
+use Rattle.loading.specs.Loaded.{WholeAs}
 use Rattle.arpa.specs.File.{isArpa}
 use Rattle.arpa.specs.Import.{importedLines, longerLines}
 use Rattle.arpa.proofs.Longer.{unseenOf, longer}
@@ -103,9 +103,12 @@ module _ (text list : List ℕ) (arpa : isArpa text ≡ true) (index₀ index ta
           → WholeAs InList (withCounts (longerLines text list lines)) index₀ index tally s × (isCounted InList (withCounts (longerLines text list lines)) ≡ true)
 
       of : (d eta u : ℤ) (rest : List (List ℤ)) → Passed InList (bRecord d eta u rest ∷ rest) → Q (bRecord d eta u rest ∷ rest)
-      of d eta u rest p score j = (record {
-        whole = longer text list arpa (bRecord d eta u rest ∷ rest) p .whole;
-        surveyed = j .surveyed ∙ surveys d eta u (unseenOf text list u) rest more (both (isInRange (bRecord d eta u rest)) (all isInRange rest) (p .ranged) .0) score;
-        tallied = j .tallied ∙ tallies d eta u (unseenOf text list u) rest more;
-        gathered = j .gathered ∙ gathers d eta u (unseenOf text list u) rest more index₀;
-      }, counts d eta (unseenOf text list u) (rest ++ more))
+      of d eta u rest p score j = (
+        record {
+          whole = longer text list arpa (bRecord d eta u rest ∷ rest) p .whole;
+          surveyed = j .surveyed ∙ surveys d eta u (unseenOf text list u) rest more (both (isInRange (bRecord d eta u rest)) (all isInRange rest) (p .ranged) .0) score;
+          tallied = j .tallied ∙ tallies d eta u (unseenOf text list u) rest more;
+          gathered = j .gathered ∙ gathers d eta u (unseenOf text list u) rest more index₀;
+        },
+        counts d eta (unseenOf text list u) (rest ++ more),
+      )

@@ -1,5 +1,5 @@
 -- What the n-grams answer to 24 and 25, and what the longer book answers to its questions, from what was noted of both.
-use Prim.Native.Nat.{ℕ, suc, _+_, _-_, _*_, _^_, _≤_, _<_}
+use Prim.Native.Nat.{ℕ, suc, _+_, _*_, _^_, _≤_, _<_}
 use mathlib.Core.Path.{_≡_, refl, sym, ap, _∙_}
 use mathlib.Core.Bool.{Bool, true, false, _&&_, cond, and-true}
 use mathlib.Core.List.{List, [], _∷_, _++_, map}
@@ -9,35 +9,35 @@ use lib.Dec.{eqb, leb}
 use lib.IntN.{ℤ, pos, negℤ}
 use lib.ListN.{length, getD, drop, length-append, length-drop}
 use Rattle.laws.specs.Bits.{one}
-use Rattle.laws.specs.Lists.{all, keep, count, concat}
+use Rattle.laws.specs.Lists.{all, count, concat}
 use Rattle.laws.proofs.Lists.{count-++, count-cons}
-use Rattle.laws.proofs.Tests.{both, both-of, by-test, clash}
+use Rattle.laws.proofs.Tests.{both, by-test, clash}
 use Rattle.laws.specs.Integers.{eqℤ}
 use Rattle.laws.proofs.Linear.{signed}
 use Rattle.meaning.specs.Questions.{_unless_, _orelse_, withinℤ, number}
 use Rattle.meaning.specs.Bounds.{penaltyMost}
-use Rattle.meaning.specs.Book.{InList, phrasesMost, gramsMost, numberAt, isScore, isWeight, isKind, isT, isU, isD, Book, isWhole, isInRange, isNotTooLong, isCounted, linesRefusal, loadedLines, bookRefusal, withCounts}
+use Rattle.meaning.specs.Book.{InList, phrasesMost, gramsMost, numberAt, isScore, isWeight, isKind, isT, isU, isD, Book, isWhole, isInRange, isNotTooLong, linesRefusal, loadedLines, bookRefusal, withCounts}
 use Rattle.meaning.proofs.Chains.{first-passes, rest-passes, test-passes}
 use Rattle.meaning.proofs.Numbered.{number-from, refused-first}
 use Rattle.meaning.proofs.Ranges.{Passed, lines-passed}
 use Rattle.meaning.proofs.Revised.{bRecord, passed-ind}
 use Rattle.meaning.proofs.Sizes.{passed-few}
 use Rattle.book.specs.declared.survey.Survey.{Survey}
-use Rattle.book.specs.Survey.{fresh, withLine, surveyFrom, tallySize, noTally, withKind, tallyFrom, gramCount, linesMost, Few}
+use Rattle.book.specs.Survey.{fresh, withLine, surveyFrom, noTally, withKind, tallyFrom, gramCount, Few}
 use Rattle.book.specs.Grams.{gramsFrom}
 use Rattle.book.specs.declared.loaded.Surveyed.the-variants.{Whole}
 use Rattle.book.specs.Loaded.{SurveyOf}
 use Rattle.book.proofs.Counts.{few-none, few-line, few-more, tally-is}
 use Rattle.arpa.specs.File.{Ngram, isArpa}
 use Rattle.arpa.specs.Words.{wordNumber}
-use Rattle.arpa.specs.Import.{isImported, importedOf, lineOf, importedLine, importedLines, unknownOf, unseenBy, longerLines, areKnown, areScores}
+use Rattle.arpa.specs.Import.{importedOf, lineOf, importedLine, importedLines, unknownOf, unseenBy, longerLines, areKnown, areScores}
+use Rattle.outline.specs.Walk.{Outlines}
 use Rattle.arpa.proofs.Ngrams.{isSized, sized-ind, imported-sized}
 use Rattle.arpa.proofs.Longer.{unseenOf, longer, longer-refusal}
 use Rattle.importing.specs.declared.walk.Cursor.{Cursor}
 use Rattle.importing.specs.declared.model.Model.{Model}
-use Rattle.importing.specs.declared.import.Longer.{Longer as Found}
 use Rattle.importing.specs.Walk.{ngramsAt}
-use Rattle.importing.specs.Model.{areKnownIn, areScoresIn, linesIn, begun, unseenFrom, IsRoom, Imports}
+use Rattle.importing.specs.Model.{areScoresIn, linesIn, IsRoom, Imports}
 use Rattle.meaning.specs.declared.Checked.{Checked}
 use Rattle.meaning.specs.declared.Refusal.{Refusal}
 use Rattle.loading.specs.declared.load.Loaded.{Loaded}
@@ -158,10 +158,10 @@ few-kind lines h k lo hi =
     by-test (eqb k 3)
     (λ e. rw (eqb-true k 3 e) (leb-true (count (isKind 3) lines) gramsMost (both t (u && (d && true)) a .0)))
     (λ n. by-test (eqb k 4)
-      (λ e. rw (eqb-true k 4 e) (leb-true (count (isKind 4) lines) gramsMost (b .0)))
-      (λ m.
-        let five : k ≡ 5 = omega (arith, eqb-false k 3 n, eqb-false k 4 m) in
-        rw five (leb-true (count (isKind 5) lines) gramsMost (both d true (b .1) .0))))
+    (λ e. rw (eqb-true k 4 e) (leb-true (count (isKind 4) lines) gramsMost (b .0)))
+    (λ m.
+    let five : k ≡ 5 = omega (arith, eqb-false k 3 n, eqb-false k 4 m) in
+    rw five (leb-true (count (isKind 5) lines) gramsMost (both d true (b .1) .0))))
 
 -- ════ a book that its own questions pass, surveyed, and then the n-grams
 
@@ -211,9 +211,10 @@ module _ {text list : List ℕ} {c : Cursor} (o : Opened text c) {book : List �
     longer-passed = lines-passed InList (withCounts (longerLines text list lines)) (sym refusal-longer ∙ rest-passes (bookRefusal book) _ (rest-passes (textsRefusal text list) _ passes))
 
     counted : (k : ℕ) → 3 ≤ k → k ≤ 5 → (getD tally₁ k 0 ≡ count (isKind k) lines) × (getD tally k 0 ≡ count (isKind k) lines + count (isKind k) more)
-    counted k lo hi =
-        (ap (λ (t : List ℕ). getD t k 0) (b .tally-is) ∙ tally-is k (omega arith) hi lines,
-        ap (λ (t : List ℕ). getD t k 0) (joined ranged .tallied ∙ sym (tally-++ noTally lines more)) ∙ tally-is k (omega arith) hi (lines ++ more) ∙ count-++ (isKind k) lines more)
+    counted k lo hi = (
+      ap (λ (t : List ℕ). getD t k 0) (b .tally-is) ∙ tally-is k (omega arith) hi lines,
+      ap (λ (t : List ℕ). getD t k 0) (joined ranged .tallied ∙ sym (tally-++ noTally lines more)) ∙ tally-is k (omega arith) hi (lines ++ more) ∙ count-++ (isKind k) lines more,
+    )
 
     few : (k : ℕ) → 3 ≤ k → k ≤ 5 → getD tally k 0 ≤ gramsMost
     few k lo hi = omega (arith, few-kind (withCounts (longerLines text list lines)) (longer-passed .short) k lo hi, counts-longer text list k lo hi lines passed, count-++ (isKind k) lines more, counted k lo hi .1)
@@ -263,3 +264,18 @@ not-broken book e f = clash (lines-passed InList (loadedLines book) e .whole) f
 pub room-book : {text : List ℕ} {c : Cursor} {book : List ℤ} {index₀ index tally : List ℕ} {s : Survey} → BookSurveyed book index₀ index tally s → length text < 2 ^ 64 → IsRoom text c s tally
 unfolding bookRefusal
 room-book {text} {c} {book} b h = rw (b .survey-is, b .tally-is) (room-lines text c (loadedLines book) h (lines-passed InList (loadedLines book) (b .refusal)))
+
+-- ════ the text that was opened
+
+pub lines-opened : {text : List ℕ} (list : List ℕ) {c : Cursor} → Opened text c → linesIn list (ngramsAt text c) ≡ importedLines text list
+unfolding importedLines importedOf
+lines-opened list o = ap (linesIn list) (o .ngrams)
+
+pub scores-opened : {text : List ℕ} (list : List ℕ) {c : Cursor} (book : List ℤ) → Opened text c → judgeRefusal text list book ≡ 0 → areScoresIn (ngramsAt text c) ≡ true
+unfolding areScores importedOf unknownOf
+scores-opened {text} list book o e = ap areScoresIn (o .ngrams) ∙ test-passes 24 (areScores text) (rest-passes (24 unless areKnown text list) (25 unless areScores text) (first-passes (textsRefusal text list) _ e))
+
+-- the outline of a text opens it
+pub opened : {text : List ℕ} {top at : ℕ} (words : ℕ) → Outlines text (record { top = top; at = at }) → Opened text (record { top = top; words = words; at = at; order = 0 })
+unfolding ngramsAt
+opened words o = record { arpa = o .arpa; walking = record { within = o .within; few = o .few; order-to = omega arith; walk = o .walk }; ngrams = o .ngrams }

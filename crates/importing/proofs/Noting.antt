@@ -1,12 +1,12 @@
 -- The loop over the n-grams: what was known before it is carried on, and no count passes its type.
-use Prim.Native.Nat.{ℕ, suc, _+_, _≤_}
-use mathlib.Core.Path.{_≡_, refl, sym, ap, _∙_}
-use mathlib.Core.List.{List, [], _∷_}
+use Prim.Native.Nat.{ℕ, _+_}
+use mathlib.Core.Path.{_≡_, refl, ap, _∙_}
+use mathlib.Core.List.{List, []}
 use native.Mathlib.Omega.{arith}
 use lib.IntN.{ℤ}
 use lib.ListN.{length, take}
 use Rattle.book.specs.declared.survey.Survey.{Survey}
-use Rattle.book.specs.Survey.{tallySize, linesMost, Few}
+use Rattle.book.specs.Survey.{linesMost, Few}
 use Rattle.book.proofs.Counts.{few-line, few-more}
 use Rattle.book.proofs.Gathered.{gram-long}
 use Rattle.book.specs.Survey.{gramCount}

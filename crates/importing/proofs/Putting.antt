@@ -1,7 +1,7 @@
 -- The lines of the n-grams, put one behind the other: those that were put and those that are left are all lines.
 use Prim.Native.Nat.{ℕ, _+_, _-_, _≤_}
 use mathlib.Core.Path.{_≡_, refl, sym, ap, _∙_}
-use mathlib.Core.Bool.{Bool, true, false, _&&_, cond}
+use mathlib.Core.Bool.{Bool, true, _&&_}
 use mathlib.Core.List.{List, [], _∷_, _++_, append-assoc, append-nil}
 use native.Mathlib.Omega.{arith}
 use lib.IntN.{ℤ}
@@ -14,7 +14,7 @@ use Rattle.laws.proofs.Tests.{both, both-of, by-test, clash}
 use Rattle.meaning.specs.Book.{isScore, isWeight}
 use Rattle.meaning.specs.Reply.{writtenOver}
 use Rattle.arpa.specs.File.{Ngram, isUnknown}
-use Rattle.arpa.specs.Import.{isImported, importedLine}
+use Rattle.arpa.specs.Import.{isImported}
 use Rattle.ngram_lines.specs.declared.Gram.{Gram}
 use Rattle.ngram_lines.specs.declared.Gram.the-variants.{PassedOver, Unknown, Line}
 use Rattle.ngram_lines.specs.Gram.{GramIs}
@@ -52,11 +52,11 @@ scores-first g gs h =
     let us : Bool = all (λ g. isScore (g .score)) (keep isUnknown gs) in
     by-test (isImported g)
     (λ i. by-test (isUnknown g)
-      (λ k. let b = both (f && fs) (u && us) (rw (i, k) at h) in let c = both f fs (b .0) in ((λ _. c .0), both-of {a = fs} {b = us} (c .1) (both u us (b .1) .1)))
-      (λ k. let b = both (f && fs) us (rw (i, k) at h) in let c = both f fs (b .0) in ((λ _. c .0), both-of {a = fs} {b = us} (c .1) (b .1))))
+    (λ k. let b = both (f && fs) (u && us) (rw (i, k) at h) in let c = both f fs (b .0) in ((λ _. c .0), both-of {a = fs} {b = us} (c .1) (both u us (b .1) .1)))
+    (λ k. let b = both (f && fs) us (rw (i, k) at h) in let c = both f fs (b .0) in ((λ _. c .0), both-of {a = fs} {b = us} (c .1) (b .1))))
     (λ i. by-test (isUnknown g)
-      (λ k. let b = both fs (u && us) (rw (i, k) at h) in ((λ t. clash t i), both-of {a = fs} {b = us} (b .0) (both u us (b .1) .1)))
-      (λ k. ((λ t. clash t i), rw (i, k) at h)))
+    (λ k. let b = both fs (u && us) (rw (i, k) at h) in ((λ t. clash t i), both-of {a = fs} {b = us} (b .0) (both u us (b .1) .1)))
+    (λ k. ((λ t. clash t i), rw (i, k) at h)))
 
 -- the first of them, as code reads it, and the others
 line-first : (list : List ℕ) (g : Ngram) (gs : List Ngram) (row : List ℤ) (gram : Gram) → areScoresIn (g ∷ gs) ≡ true → GramIs list g row gram → concat (linesIn list (g ∷ gs)) ≡ lineOfGram row gram ++ concat (linesIn list gs)

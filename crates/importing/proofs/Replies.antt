@@ -7,22 +7,22 @@ use native.Mathlib.Omega.{arith}
 use borrow.Author.Tests.{le-leb, lt-leb}
 use lib.Dec.{leb}
 use lib.IntN.{ℤ, pos}
-use lib.ListN.{length, take, drop, set, List·getD-append}
+use lib.ListN.{length, take, drop, List·getD-append}
 use Rattle.laws.specs.Lists.{count, concat}
 use Rattle.meaning.specs.Questions.{_unless_, _orelse_, number}
-use Rattle.meaning.specs.Book.{InList, numberAt, isT, loadedLines, bookRefusal}
-use Rattle.meaning.specs.Reply.{refused, done, reply, writtenOver}
-use Rattle.meaning.specs.Revision.{linesInUse, inUseRefusal}
+use Rattle.meaning.specs.Book.{numberAt, bookRefusal}
+use Rattle.meaning.specs.Reply.{refused, done, writtenOver}
+use Rattle.meaning.specs.Revision.{linesInUse}
 use Rattle.meaning.specs.declared.Refusal.{Refusal}
 use Rattle.meaning.proofs.Chains.{first-passes, rest-passes, written-refused}
 use Rattle.meaning.proofs.Numbered.{number-from, refused-reply}
 use Rattle.revising.proofs.Books.{InUse, in-use, six}
 use Rattle.revising.proofs.Replies.{not-too-many, refused-in-use}
 use Rattle.arpa.specs.File.{isArpa}
-use Rattle.arpa.specs.Import.{importedLines, longerLines, longerBook, arpaRefusal, importRefusal, importArpa, importArpaList}
+use Rattle.arpa.specs.Import.{importedLines, longerBook, arpaRefusal, importRefusal, importArpa, importArpaList}
 use Rattle.arpa.proofs.Longer.{unseenOf, longer}
 use Rattle.importing.specs.declared.import.Longer.{Longer as Found}
-use Rattle.importing.specs.Import.{textsRefusal, longerOf, judgeRefusal, LongerIs, withModel}
+use Rattle.importing.specs.Import.{textsRefusal, judgeRefusal, LongerIs, withModel}
 use Rattle.importing.proofs.Written.{revised, revised-long, put-room, put-all}
 
 orelse-assoc : (a b c : ℕ) → a orelse (b orelse c) ≡ (a orelse b) orelse c

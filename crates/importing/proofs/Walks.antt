@@ -1,7 +1,7 @@
 -- One line more of the sections: an n-gram, the next section, or the end.
-use Prim.Native.Nat.{ℕ, suc, _+_, _*_, _≤_, _<_}
+use Prim.Native.Nat.{ℕ, suc, _+_, _*_, _≤_}
 use mathlib.Core.Path.{_≡_, refl, sym, ap, _∙_}
-use mathlib.Core.Bool.{true, false, _&&_, cond}
+use mathlib.Core.Bool.{true, _&&_}
 use mathlib.Core.List.{List, [], _∷_}
 use native.Mathlib.Omega.{arith}
 use native.Mathlib.Numerals.{add-one}
@@ -13,7 +13,7 @@ use Rattle.laws.specs.Lists.{count}
 use Rattle.laws.proofs.Tests.{both, clash, by-test}
 use Rattle.meaning.specs.Numerals.{split}
 use Rattle.arpa.specs.Lines.{splitBlank, fieldsOf, filledLines}
-use Rattle.arpa.specs.File.{Ngram, isGramLine, ngramOf}
+use Rattle.arpa.specs.File.{isGramLine, ngramOf}
 use Rattle.arpa.proofs.Room.{isLong, long-few}
 use Rattle.tokens.specs.declared.scan.Line.{Line}
 use Rattle.tokens.specs.Scan.{LineRead}

@@ -1,9 +1,9 @@
 -- What the lent list holds once the imported lines stand behind the numbers in use, and u and the count of the T lines in the B record.
-use Prim.Native.Nat.{ℕ, _+_, _-_, _≤_, _<_}
-use mathlib.Core.Path.{_≡_, refl, sym, ap, _∙_}
+use Prim.Native.Nat.{ℕ, _+_, _-_, _≤_}
+use mathlib.Core.Path.{_≡_, sym, ap, _∙_}
 use mathlib.Core.List.{List, _++_, append-assoc}
 use native.Mathlib.Omega.{arith}
-use lib.IntN.{ℤ, pos}
+use lib.IntN.{ℤ}
 use lib.ListN.{length, take, drop, set, length-append, length-set, take-append-drop}
 use Rattle.laws.proofs.Fill.{over, over-long, over-more}
 use Rattle.meaning.specs.Reply.{writtenOver}

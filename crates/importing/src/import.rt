@@ -132,7 +132,14 @@ fn check_longer(model: Model, grams: &mut [u16], tally: &[usize]) -> Checked
 }
 
 // The same, of a book that its own questions pass.
-fn judge_longer(text: &[u8], cursor: Cursor, list: &[u8], index: &[u16], starts: &[usize], book: &[i32]) -> Judged
+fn judge_longer(
+    text: &[u8],
+    cursor: Cursor,
+    list: &[u8],
+    index: &[u16],
+    starts: &[usize],
+    book: &[i32],
+) -> Judged
     requires { ⌜ Opened (now text) cursor ⌝ }
     requires { ⌜ Spelling (now list) (now index) (now starts) (cursor .words) ⌝ }
     requires { ⌜ bookRefusal (now book) ≡ 0 ⌝ }
@@ -145,7 +152,16 @@ fn judge_longer(text: &[u8], cursor: Cursor, list: &[u8], index: &[u16], starts:
         return Judged::Refused(Refusal::LineFields);
     };
     let before = counts_of(&tally);
-    let model = model::note_model(text, cursor, list, index, starts, &mut grams, &mut tally, survey);
+    let model = model::note_model(
+        text,
+        cursor,
+        list,
+        index,
+        starts,
+        &mut grams,
+        &mut tally,
+        survey,
+    );
     match check_longer(model, &mut grams, &tally) {
         Checked::Passed => {
             let after = counts_of(&tally);
@@ -161,7 +177,14 @@ fn judge_longer(text: &[u8], cursor: Cursor, list: &[u8], index: &[u16], starts:
 }
 
 // Questions 24 and 25, then those of the caller's book, and those of the longer one.
-fn judge(text: &[u8], cursor: Cursor, list: &[u8], index: &[u16], starts: &[usize], book: &[i32]) -> Judged
+fn judge(
+    text: &[u8],
+    cursor: Cursor,
+    list: &[u8],
+    index: &[u16],
+    starts: &[usize],
+    book: &[i32],
+) -> Judged
     requires { ⌜ Opened (now text) cursor ⌝ }
     requires { ⌜ Spelling (now list) (now index) (now starts) (cursor .words) ⌝ }
     ensures { λ r. ⌜ JudgedAs (now (text .entry)) (now (list .entry)) (now (book .entry)) r ⌝ }
@@ -186,7 +209,16 @@ fn put_model(book: &mut [i32], longer: Longer)
 }
 
 // Question 7 of the longer book, and where it passes its lines behind the numbers in use.
-fn write_longer(text: &[u8], cursor: Cursor, list: &[u8], index: &[u16], starts: &[usize], book: &mut [i32], used: usize, longer: Longer) -> Read
+fn write_longer(
+    text: &[u8],
+    cursor: Cursor,
+    list: &[u8],
+    index: &[u16],
+    starts: &[usize],
+    book: &mut [i32],
+    used: usize,
+    longer: Longer,
+) -> Read
     requires { ⌜ Opened (now text) cursor ⌝ }
     requires { ⌜ Spelling (now list) (now index) (now starts) (cursor .words) ⌝ }
     requires { ⌜ used ≤ length (now book) ⌝ }
@@ -204,7 +236,15 @@ fn write_longer(text: &[u8], cursor: Cursor, list: &[u8], index: &[u16], starts:
 }
 
 // All questions behind 23, and the lines.
-fn import_model(text: &[u8], cursor: Cursor, list: &[u8], index: &[u16], starts: &[usize], book: &mut [i32], used: usize) -> Read
+fn import_model(
+    text: &[u8],
+    cursor: Cursor,
+    list: &[u8],
+    index: &[u16],
+    starts: &[usize],
+    book: &mut [i32],
+    used: usize,
+) -> Read
     requires { ⌜ Opened (now text) cursor ⌝ }
     requires { ⌜ Spelling (now list) (now index) (now starts) (cursor .words) ⌝ }
     requires { ⌜ used ≤ length (now book) ⌝ }
@@ -212,13 +252,28 @@ fn import_model(text: &[u8], cursor: Cursor, list: &[u8], index: &[u16], starts:
     ensures { λ _. ⌜ now (book .exit) ≡ importArpaList (now (text .entry)) (now (list .entry)) (now (book .entry)) used ⌝ }
 {
     match judge(text, cursor, list, index, starts, &book[..used]) {
-        Judged::Passed(longer) => write_longer(text, cursor, list, index, starts, book, used, longer),
+        Judged::Passed(longer) => write_longer(
+            text,
+            cursor,
+            list,
+            index,
+            starts,
+            book,
+            used,
+            longer,
+        ),
         Judged::Refused(refusal) => Read::Refused(refusal),
     }
 }
 
 // The same: the word list is indexed.
-fn import_outlined(text: &[u8], outline: Outline, list: &[u8], book: &mut [i32], used: usize) -> Read
+fn import_outlined(
+    text: &[u8],
+    outline: Outline,
+    list: &[u8],
+    book: &mut [i32],
+    used: usize,
+) -> Read
     requires { ⌜ Outlines (now text) outline ⌝ }
     requires { ⌜ used ≤ length (now book) ⌝ }
     ensures { λ r. ⌜ readReply r ≡ importArpa (now (text .entry)) (now (list .entry)) (now (book .entry)) used ⌝ }

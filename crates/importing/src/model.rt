@@ -3,8 +3,8 @@ use crate::walk;
 use crate::walk::Cursor;
 use crate::walk::Next;
 use book::grams;
-use book::survey::and_also;
 use book::survey::Survey;
+use book::survey::and_also;
 use ngram_lines::Gram;
 use ngram_lines::Row;
 ghost use mathlib.Core.Path.{_≡_};
@@ -92,7 +92,16 @@ fn with_gram(model: Model, gram: Gram, index: &mut [u16], tally: &mut [usize], r
 }
 
 // All n-grams from the cursor on; `grams` gets the records of their lines, and the tally counts them.
-pub fn note_model(text: &[u8], cursor: Cursor, list: &[u8], index: &[u16], starts: &[usize], grams: &mut [u16], tally: &mut [usize], survey: Survey) -> Model
+pub fn note_model(
+    text: &[u8],
+    cursor: Cursor,
+    list: &[u8],
+    index: &[u16],
+    starts: &[usize],
+    grams: &mut [u16],
+    tally: &mut [usize],
+    survey: Survey,
+) -> Model
     requires { ⌜ Walking (now text) cursor ⌝ }
     requires { ⌜ Spelling (now list) (now index) (now starts) (cursor .words) ⌝ }
     requires { ⌜ IsRoom (now text) cursor survey (now tally) ⌝ }

@@ -30,7 +30,14 @@ pub enum Next {
 }
 
 // The next n-gram from the cursor on; its line, where it has one, is put at the row's front. A line of one field begins a section, or ends the last.
-pub fn next_gram(text: &[u8], cursor: Cursor, list: &[u8], index: &[u16], starts: &[usize], row: &mut [i32]) -> Next
+pub fn next_gram(
+    text: &[u8],
+    cursor: Cursor,
+    list: &[u8],
+    index: &[u16],
+    starts: &[usize],
+    row: &mut [i32],
+) -> Next
     requires { ⌜ Walking (now text) cursor ⌝ }
     requires { ⌜ Spelling (now list) (now index) (now starts) (cursor .words) ⌝ }
     requires { ⌜ 5 ≤ length (now row) ⌝ }

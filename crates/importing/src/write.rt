@@ -39,7 +39,14 @@ fn put_gram(out: &mut [i32], n: usize, gram: Gram, row: &[i32]) -> usize
 }
 
 // The lines of all n-grams from the cursor on.
-pub fn write_model(text: &[u8], cursor: Cursor, list: &[u8], index: &[u16], starts: &[usize], out: &mut [i32])
+pub fn write_model(
+    text: &[u8],
+    cursor: Cursor,
+    list: &[u8],
+    index: &[u16],
+    starts: &[usize],
+    out: &mut [i32],
+)
     requires { ⌜ Walking (now text) cursor ⌝ }
     requires { ⌜ Spelling (now list) (now index) (now starts) (cursor .words) ⌝ }
     requires { ⌜ areScoresIn (ngramsAt (now text) cursor) ≡ true ⌝ }

@@ -5,16 +5,15 @@ use mathlib.Core.Bool.{true, false, _&&_, and-false}
 use mathlib.Core.List.{List, [], _∷_}
 use mathlib.Core.Logic.{_⊎_, inr, ⊎-elim}
 use native.Mathlib.Omega.{arith}
-use lib.Dec.{leb, ltb, leb·zero, leb·suc-zero, leb·suc-suc}
+use lib.Dec.{leb, leb·zero, leb·suc-zero, leb·suc-suc}
 use lib.ListN.{length, getD, drop, drop-of-length-le}
 use lib.Seq.{drop-cons}
 use borrow.Author.Tests.{ne-eqb, eq-eqb, leb-true, leb-false, le-leb}
 use Rattle.laws.specs.Bits.{one}
 use Rattle.laws.specs.Lists.{count}
 use Rattle.laws.proofs.Lists.{count-cons}
-use Rattle.laws.proofs.Tests.{both, clash, by-test}
-use Rattle.arpa.specs.Values.{isValue}
-use Rattle.arpa.specs.File.{endMark, gramsMark, isMark, isWeightPart, isGramLine, areSections, ngramOf, ngramsFrom, isUnknown}
+use Rattle.laws.proofs.Tests.{clash, by-test}
+use Rattle.arpa.specs.File.{endMark, gramsMark, isMark, isGramLine, areSections, ngramOf, ngramsFrom, isUnknown}
 use Rattle.arpa.proofs.Ngrams.{gram-long}
 use Rattle.outline.specs.Outline.{restShaped, restNgrams, restIs, walked, isWalk}
 

@@ -6,17 +6,12 @@ use Rattle.loading.specs.Loaded.{refusalOf}
 use Rattle.revising.proofs.Replies.{refused-in-use}
 use Rattle.importing.specs.Import.{modelRefusal}
 use Rattle.importing.proofs.Judging.{answered-refusal, model-ranged}
-use mathlib.Core.Path.{_≡_, refl, sym, ap, _∙_}
+use mathlib.Core.Path.{_≡_, sym, ap, _∙_}
 use native.Mathlib.Omega.{arith}
 use Rattle.loading.proofs.Answers.{few-grams}
 use borrow.Author.Needs.{needs}
 use Rattle.importing.proofs.import.check_longer.Statement.{statement}
 use Rattle.importing.proofs.import.check_longer.Tie as tie
-use Rattle.importing.proofs.import.check_longer.Reads as reads
-use Rattle.importing.proofs.import.check_longer.Lts as lts
-use Rattle.importing.proofs.import.check_model.Reads as check-model-reads
-use Rattle.loading.proofs.check.reply_of.Reads as reply-of-reads
-use Rattle.loading.proofs.load.settle_whole.Reads as settle-whole-reads
 
 check-model-requires : tie.Need-check-model-requires
 check-model-requires c κs = search needs

@@ -1,10 +1,8 @@
 -- 24 before 25.
-use mathlib.Core.Path.{refl, sym, _∙_}
+use mathlib.Core.Path.{refl}
 use borrow.Author.Tests.{not-true, not-false}
 use Rattle.importing.proofs.import.check_model.Statement.{statement}
 use Rattle.importing.proofs.import.check_model.Tie as tie
-use Rattle.importing.proofs.import.check_model.Reads as reads
-use Rattle.importing.proofs.import.check_model.Lts as lts
 
 returns : tie.Need-returns
 returns c = let e = not-true (c .before .before .args .model .known) (c .if1 .taken) in rw e refl

@@ -1,50 +1,40 @@
+-- What the questions refuse is refused; where they pass, the lines are put.
+use mathlib.Core.Path.{sym}
+use lib.Seq.{length-take-le}
+use Rattle.importing.proofs.Replies.{import-refused, judged-refused}
 use borrow.Author.Needs.{needs}
 use Rattle.importing.proofs.import.import_model.Statement.{statement}
 use Rattle.importing.proofs.import.import_model.Tie as tie
-use Rattle.importing.proofs.import.import_model.Reads as reads
-use Rattle.importing.proofs.import.import_model.Lts as lts
-use Rattle.importing.proofs.import.judge.Reads as judge-reads
-use Rattle.importing.proofs.import.write_longer.Reads as write-longer-reads
 
--- src/import.rt:214:52
 slice-reshare-prefix-judge : tie.Need-slice-reshare-prefix-judge
 slice-reshare-prefix-judge c = search needs
 
--- src/import.rt:214:52
 slice-aggregate-judge : tie.Need-slice-aggregate-judge
-slice-aggregate-judge c = ?
+slice-aggregate-judge c = sym (length-take-le (c .before .before .before .before .before .args .used) (c .before .before .before .before .before .args .book .now) (c .before .before .before .before .before .pre .1 .1))
 
--- src/import.rt:214:11
 judge-requires : tie.Need-judge-requires
 judge-requires c κs = search needs
 
--- src/import.rt:215:24
 enum-known-longer : tie.Need-enum-known-longer
 enum-known-longer c = search needs
 
--- src/import.rt:215:35
 write-longer-requires : tie.Need-write-longer-requires
-write-longer-requires c κs = ?
+write-longer-requires c κs = let s = c .before .before .before .before .before .before .before .before .before .before in (s .pre .0, (s .pre .1 .0, (s .pre .1 .1, rw (c .before .before .longer .given .1) at (c .before .before .before .before .judge .ensures))))
 
--- src/import.rt:216:25
 enum-known-refusal : tie.Need-enum-known-refusal
 enum-known-refusal c = search needs
 
--- src/import.rt:207:1
 same-length : tie.Need-same-length
 same-length c = search needs
 
--- src/import.rt:207:1
 returns : tie.Need-returns
 returns c = search needs
 
--- src/import.rt:207:1
 same-length-2 : tie.Need-same-length-2
 same-length-2 c = search needs
 
--- src/import.rt:207:1
 returns-2 : tie.Need-returns-2
-returns-2 c = ?
+returns-2 c = let s = c .before .before .before .before .before .before .before .before .before in let a = s .args in import-refused (a .text .now) (a .list .now) (a .book .now) (a .used) (c .before .refusal .given .0 .0) (judged-refused (a .text .now) (a .list .now) (a .book .now) (a .used) (s .pre .1 .1) (s .pre .0 .arpa) (c .before .refusal .given .0 .0) (rw (c .before .refusal .given .1) at (c .before .before .before .judge .ensures)))
 
 pub import-model-spec : {M : Type 1} → statement M
 import-model-spec =

@@ -1,40 +1,30 @@
+-- The outline opens the text, and the word list is indexed.
+use Rattle.importing.proofs.Judging.{opened}
 use borrow.Author.Needs.{needs}
 use Rattle.importing.proofs.import.import_outlined.Statement.{statement}
 use Rattle.importing.proofs.import.import_outlined.Tie as tie
-use Rattle.importing.proofs.import.import_outlined.Reads as reads
-use Rattle.importing.proofs.import.import_outlined.Lts as lts
-use Rattle.importing.proofs.import.import_model.Reads as import-model-reads
-use Rattle.spelling.proofs.index_words.Reads as index-words-reads
 
--- src/import.rt:229:45
 slice-aggregate-index-words : tie.Need-slice-aggregate-index-words
 slice-aggregate-index-words c = search needs
 
--- src/import.rt:229:57
 slice-aggregate-index-words-2 : tie.Need-slice-aggregate-index-words-2
 slice-aggregate-index-words-2 c = search needs
 
--- src/import.rt:229:9
 index-words-requires : tie.Need-index-words-requires
 index-words-requires c κs = search needs
 
--- src/import.rt:236:38
 slice-aggregate-import-model : tie.Need-slice-aggregate-import-model
 slice-aggregate-import-model c = search needs
 
--- src/import.rt:236:46
 slice-aggregate-import-model-2 : tie.Need-slice-aggregate-import-model-2
 slice-aggregate-import-model-2 c = search needs
 
--- src/import.rt:236:5
 import-model-requires : tie.Need-import-model-requires
-import-model-requires c κs = ?
+import-model-requires c κs = let s = c .before .before .before .before .before .before .before .before .before .before in (opened (c .before .before .before .before .before .index-words .result) (s .pre .0), (c .before .before .before .before .before .index-words .ensures, s .pre .1))
 
--- src/import.rt:221:1
 same-length : tie.Need-same-length
 same-length c = search needs
 
--- src/import.rt:221:1
 returns : tie.Need-returns
 returns c = search needs
 

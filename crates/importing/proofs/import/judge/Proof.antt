@@ -1,7 +1,7 @@
 -- The caller's book is asked before the longer one.
 use Prim.Native.Nat.{ℕ}
-use mathlib.Core.Path.{_≡_, refl, sym, ap, _∙_}
-use Rattle.meaning.specs.Questions.{_orelse_, number}
+use mathlib.Core.Path.{sym, ap, _∙_}
+use Rattle.meaning.specs.Questions.{_orelse_}
 use Rattle.meaning.specs.Book.{bookRefusal}
 use Rattle.loading.specs.Loaded.{refusalOf}
 use Rattle.loading.proofs.Replies.{check-number}
@@ -10,11 +10,6 @@ use Rattle.importing.specs.Import.{textsRefusal, longerOf}
 use borrow.Author.Needs.{needs}
 use Rattle.importing.proofs.import.judge.Statement.{statement}
 use Rattle.importing.proofs.import.judge.Tie as tie
-use Rattle.importing.proofs.import.judge.Reads as reads
-use Rattle.importing.proofs.import.judge.Lts as lts
-use Rattle.importing.proofs.import.judge_longer.Reads as judge-longer-reads
-use Rattle.importing.proofs.import.refuse_book.Reads as refuse-book-reads
-use Rattle.loading.proofs.check.check_book.Reads as check-book-reads
 
 check-book-requires : tie.Need-check-book-requires
 check-book-requires c κs = search needs
@@ -35,7 +30,7 @@ returns : tie.Need-returns
 returns c = search needs
 
 returns-2 : tie.Need-returns-2
-returns-2 c = 
+returns-2 c =
     let s = c .before .before .before .before .before .before .before .before .before in
     let k = c .before .before .before .before .check-book in
     let q = c .before .before .refusal .given .0 .0 in

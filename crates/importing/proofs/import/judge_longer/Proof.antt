@@ -1,5 +1,5 @@
 -- The survey of the book is carried on over the imported lines, and is that of the longer book (Judging).
-use mathlib.Core.Path.{_≡_, refl, sym, ap, _∙_}
+use mathlib.Core.Path.{_≡_, sym, ap, _∙_}
 use native.Mathlib.Omega.{arith}
 use mir.Syntax.{w32}
 use mir.Val.{toZ, ofZ}
@@ -8,13 +8,6 @@ use Rattle.importing.proofs.Judging.{surveyed-whole, not-broken, room-b
 use borrow.Author.Needs.{needs}
 use Rattle.importing.proofs.import.judge_longer.Statement.{statement}
 use Rattle.importing.proofs.import.judge_longer.Tie as tie
-use Rattle.importing.proofs.import.judge_longer.Reads as reads
-use Rattle.importing.proofs.import.judge_longer.Lts as lts
-use Rattle.book.proofs.loaded.survey_loaded.Reads as survey-loaded-reads
-use Rattle.importing.proofs.import.check_longer.Reads as check-longer-reads
-use Rattle.importing.proofs.import.counts_of.Reads as counts-of-reads
-use Rattle.importing.proofs.import.size_since.Reads as size-since-reads
-use Rattle.importing.proofs.model.note_model.Reads as note-model-reads
 
 slice-aggregate-survey-loaded : tie.Need-slice-aggregate-survey-loaded
 slice-aggregate-survey-loaded c = search needs

@@ -8,10 +8,6 @@ use Rattle.importing.specs.Import.{withModel}
 use borrow.Author.Needs.{needs}
 use Rattle.importing.proofs.import.put_model.Statement.{statement}
 use Rattle.importing.proofs.import.put_model.Tie as tie
-use Rattle.importing.proofs.import.put_model.Reads as reads
-use Rattle.importing.proofs.import.put_model.Lts as lts
-use Rattle.importing.proofs.model.first_of.Reads as first-of-reads
-use Rattle.lines.proofs.number_at.Reads as number-at-reads
 
 number-at-requires : tie.Need-number-at-requires
 number-at-requires c κs = search needs

@@ -1,6 +1,6 @@
 -- Where 24 and 25 pass, the book is refused as its own questions refuse it.
 use Prim.Native.Nat.{ℕ}
-use mathlib.Core.Path.{_≡_, refl, sym, ap, _∙_}
+use mathlib.Core.Path.{sym, ap, _∙_}
 use native.Mathlib.Omega.{arith}
 use Rattle.meaning.specs.Questions.{_orelse_, number}
 use Rattle.revising.proofs.Replies.{refused-in-use}
@@ -9,11 +9,6 @@ use Rattle.importing.proofs.Judging.{refusal-texts, room-none}
 use borrow.Author.Needs.{needs}
 use Rattle.importing.proofs.import.refuse_book.Statement.{statement}
 use Rattle.importing.proofs.import.refuse_book.Tie as tie
-use Rattle.importing.proofs.import.refuse_book.Reads as reads
-use Rattle.importing.proofs.import.refuse_book.Lts as lts
-use Rattle.book.proofs.survey.fresh.Reads as fresh-reads
-use Rattle.importing.proofs.import.check_model.Reads as check-model-reads
-use Rattle.importing.proofs.model.note_model.Reads as note-model-reads
 
 slice-aggregate-note-model : tie.Need-slice-aggregate-note-model
 slice-aggregate-note-model c = search needs
@@ -37,13 +32,13 @@ enum-known-refusal : tie.Need-enum-known-refusal
 enum-known-refusal c = search needs
 
 returns : tie.Need-returns
-returns c = 
+returns c =
     let s = c .before .before .before .before .before .before .before .before .before .before .before .before .before in
     let z = rw (c .enum-told .given .1) at (c .before .before .check-model .ensures) in
     sym (ap (λ (k : ℕ). k orelse number (s .args .refusal)) (sym (refusal-texts (s .pre .0) (c .before .before .before .before .before .note-model .ensures)) ∙ sym z))
 
 returns-2 : tie.Need-returns-2
-returns-2 c = 
+returns-2 c =
     let s = c .before .before .before .before .before .before .before .before .before .before .before .before .before .before in
     let q = c .before .refusal .given .0 .0 in
     sym (refused-in-use q (textsRefusal (s .args .text .now) (s .args .list .now)) (number (s .args .refusal)) (sym (refusal-texts (s .pre .0) (c .before .before .before .before .before .before .note-model .ensures)) ∙ sym (rw (c .before .refusal .given .1) at (c .before .before .before .check-model .ensures))))

@@ -3,8 +3,6 @@ use mathlib.Core.Path.{refl}
 use mir.Facts.{toZ-ofZ}
 use Rattle.importing.proofs.model.first_of.Statement.{statement}
 use Rattle.importing.proofs.model.first_of.Tie as tie
-use Rattle.importing.proofs.model.first_of.Reads as reads
-use Rattle.importing.proofs.model.first_of.Lts as lts
 
 returns : tie.Need-returns
 returns c = rw (toZ-ofZ (c .before .fits .old), c .if1 .taken) refl

@@ -1,6 +1,6 @@
 -- What is known and what is left answer together what all n-grams do (Noting); each n-gram takes some bytes.
 use Prim.Native.Nat.{_-_}
-use mathlib.Core.Path.{_≡_, refl, sym, ap, _∙_}
+use mathlib.Core.Path.{_≡_, refl, sym, _∙_}
 use native.Mathlib.Omega.{arith}
 use lib.ListN.{length}
 use Rattle.book.proofs.Counts.{few-more}
@@ -9,11 +9,6 @@ use Rattle.importing.proofs.Noting.{Noting, noting-start, noting-end, n
 use Rattle.importing.proofs.Walks.{cursor-over}
 use Rattle.importing.proofs.model.note_model.Statement.{statement}
 use Rattle.importing.proofs.model.note_model.Tie as tie
-use Rattle.importing.proofs.model.note_model.Reads as reads
-use Rattle.importing.proofs.model.note_model.Lts as lts
-use Rattle.importing.proofs.model.begin.Reads as begin-reads
-use Rattle.importing.proofs.model.with_gram.Reads as with-gram-reads
-use Rattle.importing.proofs.walk.next_gram.Reads as next-gram-reads
 
 abbrev Inv-loop : tie.InvT-loop
 Inv-loop text list index starts grams₀ tally₀ row₀ model₀ from₀ grams tally row model from = Noting text list from₀ model₀ grams₀ tally₀ from model grams tally × (length row ≡ 5)

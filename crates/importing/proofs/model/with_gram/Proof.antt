@@ -2,14 +2,9 @@
 use mathlib.Core.Path.{_≡_, refl}
 use mir.Syntax.{w32}
 use mir.Val.{toZ, ofZ}
-use Rattle.importing.specs.Model.{NotedAs}
 use borrow.Author.Needs.{needs}
 use Rattle.importing.proofs.model.with_gram.Statement.{statement}
 use Rattle.importing.proofs.model.with_gram.Tie as tie
-use Rattle.importing.proofs.model.with_gram.Reads as reads
-use Rattle.importing.proofs.model.with_gram.Lts as lts
-use Rattle.importing.proofs.model.with_row.Reads as with-row-reads
-use Rattle.importing.proofs.model.with_unknown.Reads as with-unknown-reads
 
 enum-told : tie.Need-enum-told
 enum-told c = search needs

@@ -3,14 +3,9 @@ use mathlib.Core.Path.{_≡_, refl, sym}
 use lib.Seq.{length-take-le}
 use mir.Syntax.{w32}
 use mir.Val.{toZ, ofZ}
-use mir.Facts.{toZ-ofZ}
 use borrow.Author.Needs.{needs}
 use Rattle.importing.proofs.model.with_row.Statement.{statement}
 use Rattle.importing.proofs.model.with_row.Tie as tie
-use Rattle.importing.proofs.model.with_row.Reads as reads
-use Rattle.importing.proofs.model.with_row.Lts as lts
-use Rattle.book.proofs.grams.note_line.Reads as note-line-reads
-use Rattle.book.proofs.survey.and_also.Reads as and-also-reads
 
 slice-aggregate-note-line : tie.Need-slice-aggregate-note-line
 slice-aggregate-note-line c = sym (length-take-le _ _ (c .before .before .before .before .before .before .pre .1))

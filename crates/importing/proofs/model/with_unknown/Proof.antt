@@ -2,16 +2,10 @@
 use mathlib.Core.Path.{_≡_, refl}
 use mir.Syntax.{w32}
 use mir.Val.{toZ, ofZ}
-use mir.Facts.{toZ-ofZ}
 use Rattle.importing.specs.Model.{withUnknown}
 use borrow.Author.Needs.{needs}
 use Rattle.importing.proofs.model.with_unknown.Statement.{statement}
 use Rattle.importing.proofs.model.with_unknown.Tie as tie
-use Rattle.importing.proofs.model.with_unknown.Reads as reads
-use Rattle.importing.proofs.model.with_unknown.Lts as lts
-use Rattle.book.proofs.survey.and_also.Reads as and-also-reads
-use Rattle.importing.proofs.model.first_of.Reads as first-of-reads
-use Rattle.lines.proofs.is_score.Reads as is-score-reads
 
 is-score-requires : tie.Need-is-score-requires
 is-score-requires c κs = search needs

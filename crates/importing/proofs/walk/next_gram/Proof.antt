@@ -7,10 +7,6 @@ use Rattle.importing.specs.Walk.{ngramsAt}
 use Rattle.importing.proofs.Walks.{Going, going-gram, going-met, going-on, end-read, line-read, ngrams-over}
 use Rattle.importing.proofs.walk.next_gram.Statement.{statement}
 use Rattle.importing.proofs.walk.next_gram.Tie as tie
-use Rattle.importing.proofs.walk.next_gram.Reads as reads
-use Rattle.importing.proofs.walk.next_gram.Lts as lts
-use Rattle.ngram_lines.proofs.read_gram.Reads as read-gram-reads
-use Rattle.tokens.proofs.scan.read_line.Reads as read-line-reads
 
 abbrev Inv-loop : tie.InvT-loop
 Inv-loop text list index starts row₀ top words places₀ order₀ at₀ row places order at = Going text top order₀ at₀ places order at × (row ≡ row₀)

@@ -1,14 +1,10 @@
 -- An n-gram that becomes no line changes nothing.
 use native.Mathlib.Omega.{arith}
 use lib.Seq.{length-take-le}
-use mathlib.Core.Path.{_≡_, refl, sym, ap, _∙_}
 use Rattle.importing.proofs.Putting.{put-none}
 use borrow.Author.Needs.{needs}
 use Rattle.importing.proofs.write.put_gram.Statement.{statement}
 use Rattle.importing.proofs.write.put_gram.Tie as tie
-use Rattle.importing.proofs.write.put_gram.Reads as reads
-use Rattle.importing.proofs.write.put_gram.Lts as lts
-use Rattle.importing.proofs.write.put_line.Reads as put-line-reads
 
 enum-told : tie.Need-enum-told
 enum-told c = search needs

@@ -1,5 +1,5 @@
 -- The line is put over what stood there.
-use mathlib.Core.Path.{_≡_, refl, sym, ap, _∙_}
+use mathlib.Core.Path.{sym, ap}
 use native.Mathlib.Omega.{arith}
 use lib.ListN.{length, take, length-drop}
 use lib.Seq.{length-take-le}
@@ -8,9 +8,6 @@ use Rattle.importing.proofs.Putting.{put-at}
 use borrow.Author.Needs.{needs}
 use Rattle.importing.proofs.write.put_line.Statement.{statement}
 use Rattle.importing.proofs.write.put_line.Tie as tie
-use Rattle.importing.proofs.write.put_line.Reads as reads
-use Rattle.importing.proofs.write.put_line.Lts as lts
-use Rattle.moves.proofs.put_front.Reads as put-front-reads
 
 mul-put-front : tie.Need-mul-put-front
 mul-put-front c = search needs

@@ -1,6 +1,6 @@
 -- The lines that were put and those that are left are all lines (Putting); each n-gram takes some bytes.
 use Prim.Native.Nat.{_-_}
-use mathlib.Core.Path.{_≡_, refl, sym, ap, _∙_}
+use mathlib.Core.Path.{_≡_, refl, sym, _∙_}
 use native.Mathlib.Omega.{arith}
 use borrow.Author.Needs.{needs}
 use lib.ListN.{length}
@@ -8,10 +8,6 @@ use Rattle.importing.proofs.Walks.{cursor-over}
 use Rattle.importing.proofs.Putting.{Writing, writing-start, writing-long, writing-end, writing-fits, writing-next}
 use Rattle.importing.proofs.write.write_model.Statement.{statement}
 use Rattle.importing.proofs.write.write_model.Tie as tie
-use Rattle.importing.proofs.write.write_model.Reads as reads
-use Rattle.importing.proofs.write.write_model.Lts as lts
-use Rattle.importing.proofs.walk.next_gram.Reads as next-gram-reads
-use Rattle.importing.proofs.write.put_gram.Reads as put-gram-reads
 
 abbrev Inv-loop : tie.InvT-loop
 Inv-loop text list index starts out₀ row₀ n₀ from₀ out row n from = Writing text list from₀ out₀ from n out × (length row ≡ 5)
