@@ -34,10 +34,10 @@ use Rattle.arpa.specs.Import.{importedOf, lineOf, importedLine, importedLines, 
 use Rattle.outline.specs.Walk.{Outlines}
 use Rattle.arpa.proofs.Ngrams.{isSized, sized-ind, imported-sized}
 use Rattle.arpa.proofs.Longer.{unseenOf, longer, longer-refusal}
-use Rattle.importing.specs.declared.walk.Cursor.{Cursor}
-use Rattle.importing.specs.declared.model.Model.{Model}
-use Rattle.importing.specs.Walk.{ngramsAt}
-use Rattle.importing.specs.Model.{areScoresIn, linesIn, IsRoom, Imports}
+use Rattle.arpa_model.specs.declared.walk.Cursor.{Cursor}
+use Rattle.arpa_model.specs.declared.model.Model.{Model}
+use Rattle.arpa_model.specs.Walk.{ngramsAt}
+use Rattle.arpa_model.specs.Model.{areScoresIn, linesIn, IsRoom, Imports}
 use Rattle.meaning.specs.declared.Checked.{Checked}
 use Rattle.meaning.specs.declared.Refusal.{Refusal}
 use Rattle.loading.specs.declared.load.Loaded.{Loaded}
@@ -45,7 +45,7 @@ use Rattle.loading.specs.declared.load.Loaded.the-variants.{Book as Passes, Ref
 use Rattle.loading.specs.Loaded.{refusalOf, Answered, replied}
 use Rattle.importing.specs.Import.{Opened, LongerChecked, modelRefusal, textsRefusal, countsIn, AreSince, sizeSince, longerOf, judgeRefusal, LongerIs}
 use Rattle.importing.proofs.Joined.{Joined, joined-whole, tally-++}
-use Rattle.importing.proofs.Walks.{ngrams-few}
+use Rattle.arpa_model.proofs.Walks.{ngrams-few}
 
 -- ════ 24 and 25
 

@@ -12,13 +12,13 @@ use Rattle.meaning.specs.declared.Checked.{Checked}
 use Rattle.arpa.specs.File.{ngramsOf, isArpa}
 use Rattle.arpa.specs.Import.{unseenBy, unknownOf, importedLines, longerLines, areKnown, areScores}
 use Rattle.loading.specs.Loaded.{refusalOf, WholeAs}
-use Rattle.importing.specs.declared.walk.Cursor.{Cursor}
-use Rattle.importing.specs.declared.model.Model.{Model}
-use Rattle.importing.specs.declared.import.Counts.{Counts}
-use Rattle.importing.specs.declared.import.Longer.{Longer}
-use Rattle.importing.specs.declared.import.Judged.{Judged}
-use Rattle.importing.specs.declared.import.Judged.the-variants.{Passed, Refused}
-use Rattle.importing.specs.Walk.{Walking, ngramsAt}
+use Rattle.arpa_model.specs.declared.walk.Cursor.{Cursor}
+use Rattle.arpa_model.specs.declared.model.Model.{Model}
+use Rattle.importing.specs.declared.Counts.{Counts}
+use Rattle.importing.specs.declared.Longer.{Longer}
+use Rattle.importing.specs.declared.Judged.{Judged}
+use Rattle.importing.specs.declared.Judged.the-variants.{Passed, Refused}
+use Rattle.arpa_model.specs.Walk.{Walking, ngramsAt}
 
 -- question 23 has passed the text, and the cursor stands before its first n-gram
 pub record Opened (text : List ℕ) (c : Cursor) : Type 0 where

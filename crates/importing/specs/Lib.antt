@@ -1,4 +1,1 @@
-pub mod Walk
-pub mod Model
-pub mod Write
 pub mod Import

@@ -1,0 +1,4 @@
+pub mod Walks
+pub mod Carrying
+pub mod Noting
+pub mod Putting
