@@ -1,4 +1,2 @@
-pub mod Joined
 pub mod Written
-pub mod Judging
 pub mod Replies

@@ -21,8 +21,9 @@ use Rattle.revising.proofs.Replies.{not-too-many, refused-in-use}
 use Rattle.arpa.specs.File.{isArpa}
 use Rattle.arpa.specs.Import.{importedLines, longerBook, arpaRefusal, importRefusal, importArpa, importArpaList}
 use Rattle.arpa.proofs.Longer.{unseenOf, longer}
-use Rattle.importing.specs.declared.Longer.{Longer as Found}
-use Rattle.importing.specs.Import.{textsRefusal, judgeRefusal, LongerIs, withModel}
+use Rattle.longer.specs.declared.Longer.{Longer as Found}
+use Rattle.longer.specs.Longer.{textsRefusal, judgeRefusal, LongerIs}
+use Rattle.importing.specs.Import.{withModel}
 use Rattle.importing.proofs.Written.{revised, revised-long, put-room, put-all}
 
 orelse-assoc : (a b c : ℕ) → a orelse (b orelse c) ≡ (a orelse b) orelse c

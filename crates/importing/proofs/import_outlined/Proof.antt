@@ -1,5 +1,5 @@
 -- The outline opens the text, and the word list is indexed.
-use Rattle.importing.proofs.Judging.{opened}
+use Rattle.longer.proofs.Judging.{opened}
 use borrow.Author.Needs.{needs}
 use Rattle.importing.proofs.import_outlined.Statement.{statement}
 use Rattle.importing.proofs.import_outlined.Tie as tie

@@ -7,7 +7,7 @@ use lib.ListN.{length, length-drop}
 use Rattle.laws.specs.Lists.{concat}
 use Rattle.laws.proofs.Lists.{part-rest}
 use Rattle.meaning.specs.declared.Refusal.the-variants.{ListTooShort}
-use Rattle.importing.proofs.Judging.{lines-opened, scores-opened}
+use Rattle.longer.proofs.Judging.{lines-opened, scores-opened}
 use Rattle.importing.proofs.Replies.{import-refused, too-short, import-done, six-room, import-list}
 use borrow.Author.Needs.{needs}
 use Rattle.importing.proofs.write_longer.Statement.{statement}

@@ -1,8 +1,8 @@
 -- 24 before 25.
 use mathlib.Core.Path.{refl}
 use borrow.Author.Tests.{not-true, not-false}
-use Rattle.importing.proofs.check_model.Statement.{statement}
-use Rattle.importing.proofs.check_model.Tie as tie
+use Rattle.longer.proofs.check_model.Statement.{statement}
+use Rattle.longer.proofs.check_model.Tie as tie
 
 returns : tie.Need-returns
 returns c = let e = not-true (c .before .before .args .model .known) (c .if1 .taken) in rw e refl

@@ -4,14 +4,14 @@ use Rattle.meaning.specs.Questions.{_orelse_}
 use Rattle.meaning.specs.Book.{InList, linesRefusal, bookOfLines}
 use Rattle.loading.specs.Loaded.{refusalOf}
 use Rattle.revising.proofs.Replies.{refused-in-use}
-use Rattle.importing.specs.Import.{modelRefusal}
-use Rattle.importing.proofs.Judging.{answered-refusal, model-ranged}
+use Rattle.longer.specs.Longer.{modelRefusal}
+use Rattle.longer.proofs.Judging.{answered-refusal, model-ranged}
 use mathlib.Core.Path.{_≡_, sym, ap, _∙_}
 use native.Mathlib.Omega.{arith}
 use Rattle.loading.proofs.Answers.{few-grams}
 use borrow.Author.Needs.{needs}
-use Rattle.importing.proofs.check_longer.Statement.{statement}
-use Rattle.importing.proofs.check_longer.Tie as tie
+use Rattle.longer.proofs.check_longer.Statement.{statement}
+use Rattle.longer.proofs.check_longer.Tie as tie
 
 check-model-requires : tie.Need-check-model-requires
 check-model-requires c κs = search needs

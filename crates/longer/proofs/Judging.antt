@@ -43,8 +43,8 @@ use Rattle.meaning.specs.declared.Refusal.{Refusal}
 use Rattle.loading.specs.declared.load.Loaded.{Loaded}
 use Rattle.loading.specs.declared.load.Loaded.the-variants.{Book as Passes, Refused}
 use Rattle.loading.specs.Loaded.{refusalOf, Answered, replied}
-use Rattle.importing.specs.Import.{Opened, LongerChecked, modelRefusal, textsRefusal, countsIn, AreSince, sizeSince, longerOf, judgeRefusal, LongerIs}
-use Rattle.importing.proofs.Joined.{Joined, joined-whole, tally-++}
+use Rattle.longer.specs.Longer.{Opened, LongerChecked, modelRefusal, textsRefusal, countsIn, AreSince, sizeSince, longerOf, judgeRefusal, LongerIs}
+use Rattle.longer.proofs.Joined.{Joined, joined-whole, tally-++}
 use Rattle.arpa_model.proofs.Walks.{ngrams-few}
 
 -- ════ 24 and 25

@@ -4,10 +4,10 @@ use native.Mathlib.Omega.{arith}
 use mir.Syntax.{w32}
 use mir.Val.{toZ, ofZ}
 use Rattle.loading.specs.Loaded.{refusalOf}
-use Rattle.importing.proofs.Judging.{surveyed-whole, not-broken, room-book, judged, since, found}
+use Rattle.longer.proofs.Judging.{surveyed-whole, not-broken, room-book, judged, since, found}
 use borrow.Author.Needs.{needs}
-use Rattle.importing.proofs.judge_longer.Statement.{statement}
-use Rattle.importing.proofs.judge_longer.Tie as tie
+use Rattle.longer.proofs.judge_longer.Statement.{statement}
+use Rattle.longer.proofs.judge_longer.Tie as tie
 
 slice-aggregate-survey-loaded : tie.Need-slice-aggregate-survey-loaded
 slice-aggregate-survey-loaded c = search needs

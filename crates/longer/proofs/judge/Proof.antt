@@ -6,10 +6,10 @@ use Rattle.meaning.specs.Book.{bookRefusal}
 use Rattle.loading.specs.Loaded.{refusalOf}
 use Rattle.loading.proofs.Replies.{check-number}
 use Rattle.revising.proofs.Replies.{refused-in-use}
-use Rattle.importing.specs.Import.{textsRefusal, longerOf}
+use Rattle.longer.specs.Longer.{textsRefusal, longerOf}
 use borrow.Author.Needs.{needs}
-use Rattle.importing.proofs.judge.Statement.{statement}
-use Rattle.importing.proofs.judge.Tie as tie
+use Rattle.longer.proofs.judge.Statement.{statement}
+use Rattle.longer.proofs.judge.Tie as tie
 
 check-book-requires : tie.Need-check-book-requires
 check-book-requires c κs = search needs

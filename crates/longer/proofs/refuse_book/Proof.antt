@@ -4,11 +4,11 @@ use mathlib.Core.Path.{sym, ap, _∙_}
 use native.Mathlib.Omega.{arith}
 use Rattle.meaning.specs.Questions.{_orelse_, number}
 use Rattle.revising.proofs.Replies.{refused-in-use}
-use Rattle.importing.specs.Import.{textsRefusal}
-use Rattle.importing.proofs.Judging.{refusal-texts, room-none}
+use Rattle.longer.specs.Longer.{textsRefusal}
+use Rattle.longer.proofs.Judging.{refusal-texts, room-none}
 use borrow.Author.Needs.{needs}
-use Rattle.importing.proofs.refuse_book.Statement.{statement}
-use Rattle.importing.proofs.refuse_book.Tie as tie
+use Rattle.longer.proofs.refuse_book.Statement.{statement}
+use Rattle.longer.proofs.refuse_book.Tie as tie
 
 slice-aggregate-note-model : tie.Need-slice-aggregate-note-model
 slice-aggregate-note-model c = search needs
