@@ -5,6 +5,7 @@ use mathlib.Core.Path.{_≡_, refl, ap, _∙_}
 use mathlib.Core.Bool.{true}
 use mathlib.Core.List.{List, [], _∷_, _++_, map, map-map}
 use native.Mathlib.Omega.{arith}
+use borrow.Author.Tests.{leb-true}
 use lib.Dec.{eqb, leb}
 use lib.IntN.{ℤ, pos}
 use lib.ListN.{length, take}
@@ -100,6 +101,7 @@ pub record Taken (text list : List ℕ) (book : List ℤ) (used : ℕ) : Type 0 
   pub known : areKnown text list ≡ true
   pub scores : areScores text ≡ true
   pub passed : Passed InList (linesInUse book used)
+  pub fits : length (longerBook text list book used) ≤ length book
 
 pub taken : (text list : List ℕ) (book : List ℤ) (used : ℕ) → importRefusal text list book used ≡ 0 → Taken text list book used
 unfolding importRefusal arpaRefusal bookRefusal
@@ -112,6 +114,7 @@ taken text list book used e =
       known = test-passes 23 (areKnown text list) (first-passes (24 unless areKnown text list) _ c);
       scores = test-passes 24 (areScores text) (rest-passes (24 unless areKnown text list) _ c);
       passed = lines-passed InList (linesInUse book used) (first-passes (bookRefusal (take used book)) _ (rest-passes (arpaRefusal text list) _ a));
+      fits = leb-true (length (longerBook text list book used)) (length book) (test-passes 6 (leb (length (longerBook text list book used)) (length book)) (rest-passes (bookRefusal (longerBook text list book used)) _ (rest-passes (bookRefusal (take used book)) _ (rest-passes (arpaRefusal text list) _ a))));
     }
 
 -- the caller's book had no such lines: it lists no n-gram

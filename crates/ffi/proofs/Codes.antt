@@ -19,6 +19,8 @@ use Rattle.meaning.specs.declared.Read.{Read}
 use Rattle.meaning.specs.declared.Read.the-variants.{Numbers, Refused}
 use Rattle.meaning.proofs.Chains.{test-passes, rest-passes, done-passes, done-is}
 use Rattle.meaning.proofs.Numbered.{number-to}
+use Rattle.arpa.specs.Import.{longerBook, importRefusal, importArpa}
+use Rattle.arpa.proofs.Scoring.{taken}
 use Rattle.meaning.specs.Revision.{added, addRefusal, addEntry, removed, removeRefusal, removeEntry}
 use Rattle.revising.proofs.Replies.{addable, removed-fits}
 use Rattle.ffi.specs.Bounds.{Counted}
@@ -76,3 +78,8 @@ added-counted list used line r e h = counted r (addRefusal list used line) (leng
 pub removed-counted : (list : List ℤ) (used k : ℕ) (r : Read) → readReply r ≡ removeEntry list used k → length list < 9_223_372_036_854_775_808 → Counted r
 unfolding removeEntry
 removed-counted list used k r e h = counted r (removeRefusal list used k) (length (removed list used k)) (length list) e (removed-fits list used k) h
+
+-- so it is after an import
+pub imported-counted : (text words : List ℕ) (list : List ℤ) (used : ℕ) (r : Read) → readReply r ≡ importArpa text words list used → length list < 9_223_372_036_854_775_808 → Counted r
+unfolding importArpa
+imported-counted text words list used r e h = counted r (importRefusal text words list used) (length (longerBook text words list used)) (length list) e (λ p. taken text words list used p .fits) h

@@ -11,6 +11,7 @@ ghost use Rattle.meaning.specs.Questions.{number};
 ghost use Rattle.meaning.specs.Book.{bookRefusal, targetPart};
 ghost use Rattle.meaning.specs.Reply.{readReply, readBook, readBookList, readDirection, readDirectionList, filledWith, scoreProposal};
 ghost use Rattle.meaning.specs.Revision.{addEntry, addEntryList, removeEntry, removeEntryList};
+ghost use Rattle.arpa.specs.Import.{importArpa, importArpaList};
 ghost use Rattle.ffi.specs.Bounds.{Counted};
 ghost use Rattle.lists.specs.Steps.{recordsIn};
 ghost use Rattle.ffi.specs.Calls.{countOrRefusal, zeroOrRefusal, scoreReport, DecodesNumbers};
@@ -81,6 +82,16 @@ pub extern "C" fn phrase_remove_entry(book: &mut [i32], used: usize, entry: usiz
     ensures { λ _. ⌜ now (book .exit) ≡ removeEntryList (now (book .entry)) used entry ⌝ }
 {
     let reply = revising::remove_entry(book, used, entry);
+    count_or_refusal(reply)
+}
+
+// Imports an ARPA text, through a word list, to a loaded book: how many numbers are then in use, or minus the refusal.
+#[no_mangle]
+pub extern "C" fn phrase_import_arpa(arpa: &[u8], spelling: &[u8], book: &mut [i32], used: usize) -> i64
+    ensures { λ r. ⌜ r ≡ countOrRefusal (importArpa (now (arpa .entry)) (now (spelling .entry)) (now (book .entry)) used) ⌝ }
+    ensures { λ _. ⌜ now (book .exit) ≡ importArpaList (now (arpa .entry)) (now (spelling .entry)) (now (book .entry)) used ⌝ }
+{
+    let reply = importing::import_arpa(arpa, spelling, book, used);
     count_or_refusal(reply)
 }
 
