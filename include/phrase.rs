@@ -20,6 +20,15 @@ extern "C" {
         line_len: usize,
     ) -> i64;
     fn phrase_remove_entry(book: *mut i32, book_len: usize, used: usize, entry: usize) -> i64;
+    fn phrase_import_arpa(
+        arpa: *const u8,
+        arpa_len: usize,
+        spelling: *const u8,
+        spelling_len: usize,
+        book: *mut i32,
+        book_len: usize,
+        used: usize,
+    ) -> i64;
     fn phrase_score(
         book: *const i32,
         book_len: usize,
@@ -95,6 +104,22 @@ pub fn add_entry(book: &mut [i32], used: usize, line: &[i32]) -> i64 {
 /// The same of a removal.
 pub fn remove_entry(book: &mut [i32], used: usize, entry: usize) -> i64 {
     unsafe { phrase_remove_entry(book.as_mut_ptr(), book.len(), used, entry) }
+}
+
+/// The numbers then in use, or minus the refusal: an ARPA text's lines put after the book's last, its words by a word list whose k-th line
+/// spells word k.
+pub fn import_arpa(arpa: &[u8], spelling: &[u8], book: &mut [i32], used: usize) -> i64 {
+    unsafe {
+        phrase_import_arpa(
+            arpa.as_ptr(),
+            arpa.len(),
+            spelling.as_ptr(),
+            spelling.len(),
+            book.as_mut_ptr(),
+            book.len(),
+            used,
+        )
+    }
 }
 
 /// 0, or the refusal; the report gets five values: the score, and how many target words were supplied by triples, pairs, words and u.

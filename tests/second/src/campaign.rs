@@ -3,6 +3,7 @@
 
 use crate::edits::EditCase;
 use crate::gen::{self, DecodeCase, Rng, Shape};
+use crate::imports::ImportCase;
 use crate::{plain, *};
 use std::collections::BTreeMap;
 
@@ -85,8 +86,12 @@ pub fn run(seed: u64, count: usize) -> Tally {
             rounds::editing_round(&mut rng, &shape, &mut tally);
             rounds::edits_in_turn(&mut rng, &shape, &mut tally);
         }
+        if round % 8 == 2 {
+            rounds::importing_round(&mut rng, &shape, &mut tally);
+        }
         if round % 100 == 50 {
             rounds::full_book_edits(&mut rng, &shape, &mut tally);
+            rounds::full_book_imports(&mut rng, &shape, &mut tally);
         }
         if round % 40 == 0 {
             let shape = Shape::middle(&mut rng);
@@ -572,6 +577,9 @@ impl rounds::Calls for Tally {
     }
     fn edit(&mut self, _: &mut Rng, case: &EditCase) {
         self.reply(case.call(), &case.answer().0);
+    }
+    fn import(&mut self, _: &mut Rng, case: &ImportCase) {
+        self.reply("import_arpa", &case.answer().0);
     }
     fn same_book(&mut self, _: &mut Rng, text: &[u8], case: &DecodeCase, _: &[Step]) {
         let fresh = read_book(text, case.book.len());

@@ -5,6 +5,7 @@
 
 use crate::edits::{Edit, EditCase};
 use crate::gen::DecodeCase;
+use crate::imports::ImportCase;
 use crate::ways::Ways;
 use crate::{plain, Answer, Scoring, Step, Supplied};
 use std::fmt::{Display, Write};
@@ -81,6 +82,14 @@ impl<'a> Case<'a> {
             steps_len: self.count(STEPS),
             words_len: self.count(WORDS),
             store_len: self.count(STORE),
+        }
+    }
+    fn import(&mut self) -> ImportCase {
+        ImportCase {
+            arpa: self.list(TEXT),
+            spelling: self.list(TEXT),
+            list: self.list(READ),
+            used: self.number(),
         }
     }
     fn edit(&mut self, edit: impl Fn(&mut Self) -> Edit) -> EditCase {
@@ -189,14 +198,18 @@ fn read_book(case: &mut Case) -> Said {
     said("read_book", &reply, line)
 }
 
-/// An edit: what is replied, and the list afterwards, with garbage behind it, held to what it was before.
-fn edited(asked: &EditCase, fill: u16) -> Said {
-    let (reply, after) = asked.answer();
+/// An edit or an import: what is replied, and the list afterwards, with garbage behind it, held to what it was before.
+fn edited(
+    call: &'static str,
+    before: &[i32],
+    (reply, after): (Result<usize, u8>, Vec<i32>),
+    fill: u16,
+) -> Said {
     let head = reply.map_or_else(|k| format!("R,{k}"), |count| format!("N,{count}"));
     let garbage = garbage(fill, READ);
     let whole = |list: &[i32]| over(list.iter().map(|&z| z as i64), &garbage);
-    let text = head + &lent("book", &whole(&after), &whole(&asked.list));
-    said(asked.call(), &reply, text)
+    let text = head + &lent("book", &whole(&after), &whole(before));
+    said(call, &reply, text)
 }
 
 fn read_direction(case: &mut Case) -> Said {
@@ -331,11 +344,15 @@ fn answer(case: &mut Case) -> Said {
         8 => rendered(case),
         9 => {
             let asked = case.edit(|case| Edit::Add(case.list(READ)));
-            edited(&asked, case.number())
+            edited(asked.call(), &asked.list, asked.answer(), case.number())
         }
         10 => {
             let asked = case.edit(|case| Edit::Remove(case.number()));
-            edited(&asked, case.number())
+            edited(asked.call(), &asked.list, asked.answer(), case.number())
+        }
+        11 => {
+            let asked = case.import();
+            edited("import_arpa", &asked.list, asked.answer(), case.number())
         }
         k => panic!("call {k}"),
     }

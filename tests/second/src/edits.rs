@@ -124,12 +124,9 @@ pub fn lent(rng: &mut Rng, book: &[i32], places: usize) -> Vec<i32> {
     list
 }
 
-/// The edit of a book in a lent list: with room or without, and now and then with a wrong count of the numbers in use.
-pub fn in_list(rng: &mut Rng, book: &[i32], edit: Edit) -> EditCase {
-    let needed = match &edit {
-        Edit::Add(line) => line.len(),
-        Edit::Remove(_) => 0,
-    };
+/// A book in a lent list, and how many numbers are said to be in use: with room for so many more or without, and now and then a wrong
+/// count of the numbers in use.
+pub fn book_in_list(rng: &mut Rng, book: &[i32], needed: usize) -> (Vec<i32>, usize) {
     let short = rng.chance(1, 8);
     let places = gen::places(rng, needed, short);
     let list = lent(rng, book, places);
@@ -139,5 +136,15 @@ pub fn in_list(rng: &mut Rng, book: &[i32], edit: Edit) -> EditCase {
         2 => rng.pick(&[0, book.len().saturating_sub(1), usize::MAX]),
         _ => book.len(),
     };
+    (list, used)
+}
+
+/// The edit of a book in a lent list.
+pub fn in_list(rng: &mut Rng, book: &[i32], edit: Edit) -> EditCase {
+    let needed = match &edit {
+        Edit::Add(line) => line.len(),
+        Edit::Remove(_) => 0,
+    };
+    let (list, used) = book_in_list(rng, book, needed);
     EditCase { list, used, edit }
 }

@@ -119,7 +119,7 @@ impl Shape {
     fn source(&self, rng: &mut Rng) -> i64 {
         self.source_base + rng.below(self.source_words as usize) as i64
     }
-    fn target(&self, rng: &mut Rng) -> i64 {
+    pub fn target(&self, rng: &mut Rng) -> i64 {
         self.target_base + rng.below(self.target_words as usize) as i64
     }
     fn at_end(&self) -> bool {
@@ -132,7 +132,7 @@ impl Shape {
         }
         rng.between(1, most)
     }
-    fn score(&self, rng: &mut Rng) -> i64 {
+    pub fn score(&self, rng: &mut Rng) -> i64 {
         if !self.ties.is_empty() {
             return rng.pick(self.ties);
         }
@@ -145,7 +145,7 @@ impl Shape {
         }
     }
     /// A back-off weight: of either sign, and now and then at an end of the range.
-    fn weight(&self, rng: &mut Rng) -> i64 {
+    pub fn weight(&self, rng: &mut Rng) -> i64 {
         if !self.ties.is_empty() {
             return rng.pick(self.ties);
         }
@@ -680,7 +680,7 @@ pub fn mangle_text(rng: &mut Rng, text: &mut Vec<u8>) {
 }
 
 /// One element put in, changed or taken out at any place.
-fn change_anywhere<T>(rng: &mut Rng, row: &mut Vec<T>, new: T) {
+pub fn change_anywhere<T>(rng: &mut Rng, row: &mut Vec<T>, new: T) {
     let at = rng.below(row.len() + 1);
     match rng.below(3) {
         0 => row.insert(at, new),

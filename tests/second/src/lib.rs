@@ -1,18 +1,22 @@
-//! A second decoder, written from the papers alone (01-scope.md, tickets 1 to 5 of
+//! A second decoder, written from the papers alone (01-scope.md, tickets 1 to 6 of
 //! 02-change-requests.md, and Collins' notes 000, 001, 002). Standard library only. Refusals are the
 //! question numbers of 01 and 02.
 
 use std::collections::HashMap;
 
+pub mod arpa;
 pub mod campaign;
 pub mod cases;
 pub mod edits;
 pub mod gen;
+pub mod imports;
 pub mod plain;
+pub mod plain_arpa;
 pub mod random_cases;
 pub mod rounds;
 pub mod ways;
 
+pub use arpa::import_arpa;
 pub use plain::all_derivations;
 
 /// A step: first, last, entry; all counted from 1.

@@ -384,7 +384,7 @@ pub fn answer(book: &Book, direction: &[u16], width: i64, room: usize) -> Result
 
 // ------------------------------------------------------------------------ verdicts on reading
 
-type PlainLine = (u8, Vec<i64>);
+pub type PlainLine = (u8, Vec<i64>);
 
 /// The text by an automaton, byte for byte: its lines, or None where question 1 says no.
 fn lines_of_text(text: &[u8], with_letters: bool) -> Option<Vec<PlainLine>> {
@@ -527,7 +527,7 @@ fn later_verdict(lines: &[PlainLine]) -> u8 {
 }
 
 /// Lines as a loaded list, the B record with the counts of these lines behind d, eta and u.
-fn list_of(lines: &[PlainLine]) -> Vec<i32> {
+pub fn list_of(lines: &[PlainLine]) -> Vec<i32> {
     let mut list = Vec::new();
     for (letter, numbers) in lines {
         match letter {
@@ -620,7 +620,7 @@ pub fn direction_text_verdict(text: &[u8], places: usize) -> (u8, Vec<u16>) {
 pub type Edited = Result<(usize, Vec<i32>), u8>;
 
 /// The lines of a list's first `used` numbers, of which 7 and all questions of a loaded book say yes.
-fn lines_in_use(list: &[i32], used: usize) -> Result<Vec<PlainLine>, u8> {
+pub fn lines_in_use(list: &[i32], used: usize) -> Result<Vec<PlainLine>, u8> {
     if used > list.len() {
         return Err(7);
     }
@@ -638,10 +638,14 @@ pub fn add_entry(list: &[i32], used: usize, line: &[i32]) -> Edited {
         Some(added) if added.len() == 1 && added[0].0 == b'P' => lines.extend(added),
         _ => return Err(2),
     }
-    let book = list_of(&lines);
-    match loaded_verdict(&book) {
+    in_list(&list_of(&lines), list)
+}
+
+/// A longer book, if its questions say yes, in the list that holds a shorter one; the tail is as before.
+pub fn in_list(book: &[i32], list: &[i32]) -> Edited {
+    match loaded_verdict(book) {
         0 if book.len() > list.len() => Err(7),
-        0 => Ok((book.len(), [&book, &list[book.len()..]].concat())),
+        0 => Ok((book.len(), [book, &list[book.len()..]].concat())),
         code => Err(code),
     }
 }

@@ -3,6 +3,7 @@
 use crate::cases::{self, BOOK, DIRECTION, LINE, READ, RENDERED, STEPS, STORE, TEXT, WORDS};
 use crate::edits::{Edit, EditCase};
 use crate::gen::{self, DecodeCase, Rng, Shape};
+use crate::imports::ImportCase;
 use crate::rounds::{self, Calls, Reached, Tally};
 use crate::ways::Ways;
 use crate::Step;
@@ -106,6 +107,16 @@ impl Calls for Lines {
         let sizes = [(case.list.len(), READ), (size, READ)];
         self.add(&sizes, format!("{call} {lent} {asked} {}", fill(rng)));
     }
+    fn import(&mut self, rng: &mut Rng, case: &ImportCase) {
+        let sizes = [
+            (case.arpa.len(), TEXT),
+            (case.spelling.len(), TEXT),
+            (case.list.len(), READ),
+        ];
+        let texts = format!("{} {}", list(&case.arpa), list(&case.spelling));
+        let lent = format!("{} {}", list(&case.list), case.used);
+        self.add(&sizes, format!("11 {texts} {lent} {}", fill(rng)));
+    }
     /// A reading of the text, held to the edited book; what else is asked of that book has lines of its own.
     fn same_book(&mut self, rng: &mut Rng, text: &[u8], case: &DecodeCase, _: &[Step]) {
         let (size, book) = (case.book.len(), list(&case.book));
@@ -148,18 +159,24 @@ pub fn made(seed: u64, inputs: usize) -> Lines {
             for small in [Shape::small(&mut rng), Shape::small_ties(&mut rng)] {
                 other_calls(&mut rng, &small, &mut lines);
             }
-            let code = rng.pick(&[2, 3, 4, 6, 20, 21]);
+        }
+        if k % 10 == 3 {
+            let code = [2, 3, 4, 6, 20, 21][k / 10 % 6];
             refused_books(&mut rng, &shape, code, &mut lines);
         }
         if k % 16 == 8 {
             rounds::editing_round(&mut rng, &shape, &mut lines);
             rounds::edits_in_turn(&mut rng, &shape, &mut lines);
         }
-        if k % 64 == 1 {
+        if k % 16 == 4 {
+            rounds::importing_round(&mut rng, &shape, &mut lines);
+        }
+        if k % 48 == 1 {
             refused_books(&mut rng, &shape, 5, &mut lines);
         }
-        if k % 48 == 33 {
+        if k % 32 == 17 {
             rounds::full_book_edits(&mut rng, &shape, &mut lines);
+            rounds::full_book_imports(&mut rng, &shape, &mut lines);
         }
         k += 1;
     }
@@ -175,11 +192,11 @@ const WITH_STEPS: [Reached; 2] = [
     ),
 ];
 
-/// What was met too seldom, in a sentence: an answer of the calls with step records or of the edits, fewer than `least` times, or a way in
-/// which a triple is scored, or a mixture of suppliers.
+/// What was met too seldom, in a sentence: an answer of the calls with step records, of the edits or of the import, fewer than `least`
+/// times, or a way in which a triple is scored, or a mixture of suppliers.
 fn seldom(tally: &Tally, ways: &Ways, least: u64) -> Result<(), String> {
-    for reached in [WITH_STEPS, rounds::EDITS] {
-        tally.seldom(&reached, least).map_or(Ok(()), Err)?;
+    for reached in [&WITH_STEPS[..], &rounds::EDITS, &rounds::IMPORTS] {
+        tally.seldom(reached, least).map_or(Ok(()), Err)?;
     }
     match ways.seldom() {
         Some(said) if least > 0 => Err(said),

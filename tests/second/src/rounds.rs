@@ -2,6 +2,7 @@
 
 use crate::edits::{self, EditCase};
 use crate::gen::{self, DecodeCase, Rng, Shape};
+use crate::imports::{self, Flaw, ImportCase};
 use crate::Step;
 use std::collections::BTreeMap;
 
@@ -13,6 +14,7 @@ pub trait Calls {
     fn score(&mut self, rng: &mut Rng, book: &[i32], direction: &[u16], steps: &[Step]);
     fn decode(&mut self, rng: &mut Rng, case: &DecodeCase);
     fn edit(&mut self, rng: &mut Rng, case: &EditCase);
+    fn import(&mut self, rng: &mut Rng, case: &ImportCase);
     /// "A decode after any edits equals a decode of the edited book read afresh": the case has the edited book, and the text is what that
     /// is to be. A scoring of the steps and the target words are asked too.
     fn same_book(&mut self, rng: &mut Rng, text: &[u8], case: &DecodeCase, steps: &[Step]);
@@ -79,6 +81,9 @@ pub const EDITS: [Reached; 2] = [
     ("remove_entry", &[0, 2, 3, 4, 5, 6, 7, 20, 21, 22]),
 ];
 
+/// Those of the import.
+pub const IMPORTS: [Reached; 1] = [("import_arpa", &[0, 2, 3, 4, 5, 6, 7, 20, 21, 23, 24, 25])];
+
 /// The shape of round k's books and directions.
 pub fn shape(rng: &mut Rng, k: usize) -> Shape {
     match k % 20 {
@@ -103,6 +108,10 @@ pub fn round(rng: &mut Rng, k: usize, calls: &mut dyn Calls) {
     }
     if k % 40 == 20 {
         full_book_edits(rng, &shape, calls);
+        full_book_imports(rng, &shape, calls);
+    }
+    if k % 4 == 1 {
+        importing_round(rng, &shape, calls);
     }
     scoring_round(rng, &shape, calls);
     decoding_round(rng, &shape, calls);
@@ -262,4 +271,98 @@ fn as_read_afresh(rng: &mut Rng, shape: &Shape, book: &[i32], text: &[u8], calls
     calls.check_book(rng, &case.book);
     calls.score(rng, &case.book, &case.direction, &steps);
     calls.decode(rng, &case);
+}
+
+/// Imports with each flaw to good books, and good ones to books that are broken.
+pub fn importing_round(rng: &mut Rng, shape: &Shape, calls: &mut dyn Calls) {
+    use Flaw::*;
+    for flaw in [None, None, None, Text, Text, Words, Range, Twice] {
+        let bare = rng.chance(3, 4);
+        let shape = imports::shape(rng, shape, bare);
+        let code = match flaw {
+            None => 0,
+            _ => rng.pick(&[0, 0, 0, 0, 0, 0, 2, 3, 4, 6, 20, 21]),
+        };
+        let book = gen::book_saying(rng, &shape, code);
+        let texts = imports::texts(rng, &shape, flaw);
+        let case = imports::in_list(rng, &book, texts);
+        calls.import(rng, &case);
+        imported(rng, &shape, case, 2, calls);
+    }
+    for code in [2, 3, 4, 6, 20, 21] {
+        let shape = imports::shape(rng, shape, false);
+        let book = gen::book_saying(rng, &shape, code);
+        let texts = imports::texts(rng, &shape, None);
+        let case = imports::in_list(rng, &book, texts);
+        calls.import(rng, &case);
+    }
+}
+
+/// Imports to books with as many lines of a kind as are allowed, of which none is left out, and to one with too many.
+pub fn full_book_imports(rng: &mut Rng, shape: &Shape, calls: &mut dyn Calls) {
+    // Short numbers: the lists are long enough.
+    let short = Shape {
+        source_base: 1,
+        target_base: 1,
+        ties: &[0],
+        ..shape.clone()
+    };
+    let counts = rng.pick(&[[2, 8_192, 0, 0], [2, 0, 8_192, 0], [2, 0, 0, 8_192]]);
+    for counts in [counts, [4_097, 0, 0, 0], [0, 8_190, 0, 0]] {
+        let book = gen::loaded(&gen::lines_of(rng, &short, counts));
+        let texts = imports::texts(rng, &short, Flaw::None);
+        let case = imports::in_list(rng, &book, texts);
+        calls.import(rng, &case);
+    }
+}
+
+/// What was imported is asked as its text is, and held to the file's own scores where the caller's book had none; and up to so many
+/// imports more go to the same list.
+fn imported(rng: &mut Rng, shape: &Shape, case: ImportCase, more: usize, calls: &mut dyn Calls) {
+    let (Ok(used), list) = case.answer() else {
+        return;
+    };
+    let book = &list[..used];
+    as_read_afresh(rng, shape, book, &gen::text(&imports::lines(book)), calls);
+    if case.into_bare_book() {
+        as_the_file(rng, shape, &case, book, calls);
+    }
+    if more > 0 && rng.chance(1, 2) {
+        let (arpa, spelling) = imports::texts(rng, shape, Flaw::None);
+        let next = ImportCase {
+            arpa,
+            spelling,
+            list,
+            used,
+        };
+        calls.import(rng, &next);
+        imported(rng, shape, next, more - 1, calls);
+    }
+}
+
+/// The triples of the target words, and those of the answer to a decode, score as the file says.
+fn as_the_file(
+    rng: &mut Rng,
+    shape: &Shape,
+    case: &ImportCase,
+    book: &[i32],
+    calls: &mut dyn Calls,
+) {
+    let mut words: Vec<u16> = (0..5).map(|_| shape.target(rng) as u16).collect();
+    words.push(rng.pick(&[1, 2, 65_534, 65_535]));
+    case.hold_triples(book, &words);
+    let checked = crate::check_book(book).expect("a good book");
+    let direction = gen::direction_from(rng, shape, &checked);
+    let asked = DecodeCase {
+        book: book.to_vec(),
+        width: -1,
+        steps_len: direction.len(),
+        words_len: 8 * direction.len(),
+        store_len: 8 * 1_000,
+        direction,
+    };
+    calls.decode(rng, &asked);
+    if let Ok(answer) = asked.answer() {
+        case.hold_answer(book, &answer);
+    }
 }

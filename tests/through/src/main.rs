@@ -1,14 +1,16 @@
 //! Random inputs, good and broken, to every call of the library, each answer held to the second decoder's. Every lent list is
-//! full of garbage before a call and is compared whole afterwards. Books are edited up to 20 times in one list, and what is then asked of
-//! them is held to their edited texts, read afresh by the library. `through SEED INPUTS [LEAST]`: LEAST is how often each refusal, and each
-//! answer of the two edits, must have been met at the end; where it is not 0, each way in which a triple is scored, and each of the four
-//! suppliers alone and all of them together in an answer, must have been met too (`second::ways`). It stops at the first difference.
+//! full of garbage before a call and is compared whole afterwards. Books are edited up to 20 times in one list, and ARPA texts are imported
+//! to them; what is then asked of them is held to their texts, read afresh by the library. `through SEED INPUTS [LEAST]`: LEAST is how often
+//! each refusal, and each answer of the two edits and of the import, must have been met at the end; where it is not 0, each way in which a
+//! triple is scored, and each of the four suppliers alone and all of them together in an answer, must have been met too (`second::ways`). It
+//! stops at the first difference.
 
 #[path = "../../../include/phrase.rs"]
 mod library;
 
 use second::edits::{Edit, EditCase};
 use second::gen::{DecodeCase, Rng};
+use second::imports::ImportCase;
 use second::rounds::{self, Calls, Tally};
 use second::ways::Ways;
 use second::{Step, Supplied};
@@ -228,6 +230,15 @@ impl Calls for Library {
         assert_eq!(after, list, "{case:?}");
         self.0.count(case.call(), expected.err().unwrap_or(0));
     }
+    fn import(&mut self, _: &mut Rng, case: &ImportCase) {
+        let mut after = case.list.clone();
+        let reply = library::import_arpa(&case.arpa, &case.spelling, &mut after, case.used);
+        let (expected, list) = case.answer();
+        let meant = expected.map_or_else(|code| -(code as i64), |count| count as i64);
+        assert_eq!(reply, meant, "{case:?}");
+        assert_eq!(after, list, "{case:?}");
+        self.0.count("import_arpa", expected.err().unwrap_or(0));
+    }
     fn same_book(&mut self, rng: &mut Rng, text: &[u8], case: &DecodeCase, steps: &[Step]) {
         let (edited, said) = (&case.book, String::from_utf8_lossy(text));
         let mut fresh = garbage32(rng, edited.len() + 9);
@@ -278,12 +289,14 @@ fn main() {
 
 /// What was met too seldom; nothing where all was met.
 fn seldom(tally: &Tally, ways: &Ways, least: u64) -> String {
-    let rare: Vec<u8> = (1..=22).filter(|&k| tally.refusals(k) < least).collect();
+    let rare: Vec<u8> = (1..=25).filter(|&k| tally.refusals(k) < least).collect();
     if !rare.is_empty() {
         return format!("met fewer than {least} times: {rare:?}");
     }
-    if let Some(said) = tally.seldom(&rounds::EDITS, least) {
-        return said;
+    for reached in [&rounds::EDITS[..], &rounds::IMPORTS] {
+        if let Some(said) = tally.seldom(reached, least) {
+            return said;
+        }
     }
     match ways.seldom() {
         Some(said) if least > 0 => said,
