@@ -1,9 +1,11 @@
-//! The library (through its C interface) beside a Rust decoder with the standard library's hash maps and a plain Rust reader,
-//! in one run: both must give the same answers, and a ratio is printed for each. Below 1.0 the library is the faster one.
+//! The library (through its C interface) beside a Rust decoder with the standard library's hash maps, a plain Rust reader and a plain
+//! Rust importer, in one run: both must give the same answers, and a ratio is printed for each. Below 1.0 the library is the faster one.
 
+mod arpa;
 #[allow(dead_code)]
 #[path = "../../include/phrase.rs"]
 mod library;
+mod plain_importer;
 mod plain_reader;
 
 use second::gen::{self, Rng};
@@ -234,10 +236,12 @@ fn said(width: i64) -> String {
     }
 }
 
-/// How many numbers the P or T line has that begins there.
+/// How many numbers the line of a loaded book has that begins there.
 fn size(book: &[i32], at: usize) -> usize {
     match book[at] {
+        1 => 6,
         2 => (book[at + 1] + book[at + 2] + 4) as usize,
+        4 => 4,
         _ => 5,
     }
 }
@@ -313,10 +317,14 @@ fn read(name: &str, text: &str) {
     if let Some(list) = &expected {
         assert_eq!(book[..list.len()], list[..]);
     }
-    let each = |t: Duration| t.as_nanos() as f64 / text.len() as f64;
+    print_by_byte(name, text.len(), a, b);
+}
+
+/// A row for texts of so many bytes.
+fn print_by_byte(name: &str, bytes: usize, a: Duration, b: Duration) {
+    let each = |t: Duration| t.as_nanos() as f64 / bytes as f64;
     println!(
-        "{name:40} {:8} {:9.3} {:9.3} {:9.2} {:9.2} {:7.2}",
-        text.len(),
+        "{name:40} {bytes:8} {:9.3} {:9.3} {:9.2} {:9.2} {:7.2}",
         a.as_secs_f64() * 1e3,
         b.as_secs_f64() * 1e3,
         each(a),
@@ -338,8 +346,13 @@ fn edit(name: &str, before: &[i32], used: usize, edit: impl Fn(&mut [i32]) -> i6
         assert_eq!(library::check_book(&before[..used]), 0);
         b = b.min(start.elapsed());
     }
+    print_pair(name, used, a, b);
+}
+
+/// A row for two calls of the library.
+fn print_pair(name: &str, size: usize, a: Duration, b: Duration) {
     println!(
-        "{name:40} {used:8} {:9.3} {:9.3} {:35.2}",
+        "{name:40} {size:8} {:9.3} {:9.3} {:35.2}",
         a.as_secs_f64() * 1e3,
         b.as_secs_f64() * 1e3,
         ratio(a, b)
@@ -391,6 +404,97 @@ fn reading() {
     check(&text);
 }
 
+/// The book that lines are imported to: a B record alone.
+const BARE: [i32; 6] = [1, 3, -30, -5_000, 0, 0];
+
+/// An ARPA text and the word list by which it is imported.
+struct Model {
+    arpa: String,
+    spelling: String,
+}
+
+impl Model {
+    /// A text with so many lines to be of each order, its words all over the first so many of the list.
+    fn new(words: &[String], of_first: usize, lines: usize) -> Model {
+        Model {
+            arpa: arpa::text(&mut Rng::new(7), &words[..of_first], lines),
+            spelling: words.join("\n") + "\n",
+        }
+    }
+    fn bytes(&self) -> usize {
+        self.arpa.len() + self.spelling.len()
+    }
+    fn turns(&self) -> usize {
+        (100_000_000 / self.bytes()).clamp(20, 5_000)
+    }
+    fn plain(&self) -> Vec<i32> {
+        let book = plain_importer::import(&self.arpa, &self.spelling, &BARE);
+        book.expect("a good text")
+    }
+    /// A list with room for the longer book.
+    fn room(&self) -> Vec<i32> {
+        vec![0; self.plain().len()]
+    }
+    /// By the library, which must fill the list.
+    fn import(&self, list: &mut [i32]) {
+        list[..6].copy_from_slice(&BARE);
+        let (arpa, spelling) = (self.arpa.as_bytes(), self.spelling.as_bytes());
+        let used = library::import_arpa(arpa, spelling, list, 6);
+        assert_eq!(used, list.len() as i64);
+    }
+}
+
+/// A model, imported by both.
+fn import(name: &str, model: &Model) {
+    let (expected, mut list) = (model.plain(), model.room());
+    let (a, b) = side_by_side(
+        model.turns(),
+        || model.import(&mut list),
+        || assert_eq!(model.plain().len(), expected.len()),
+    );
+    assert_eq!(list, expected);
+    print_by_byte(name, model.bytes(), a, b);
+}
+
+/// A model beside one of half the text, half the words or both, by the library. Where the time is linear, half of both takes half of
+/// it, and half of one more than that.
+fn import_growth(name: &str, whole: &Model, half: &Model) {
+    let (mut list, mut shorter) = (whole.room(), half.room());
+    let (a, b) = side_by_side(
+        whole.turns(),
+        || whole.import(&mut list),
+        || half.import(&mut shorter),
+    );
+    assert_eq!((list, shorter), (whole.plain(), half.plain()));
+    print_pair(name, whole.bytes(), a, b);
+}
+
+fn importing() {
+    println!("importing                                   bytes   ours ms  theirs ms   ours ns/byte  theirs   ratio");
+    let mut rng = Rng::new(6);
+    for (name, count, lines) in [
+        ("1 KB, 100 words", 100, 7),
+        ("100 KB, 5000 words", 5_000, 780),
+        ("1 MB, 60000 words", 60_000, 8_192),
+    ] {
+        let words = arpa::words(&mut rng, count);
+        import(name, &Model::new(&words, count, lines));
+    }
+    let words = arpa::words_with_one_prefix(60_000);
+    let name = "60000 words with one prefix";
+    import(name, &Model::new(&words, 60_000, 8_192));
+    println!();
+    println!("importing, growth                           bytes  whole ms   half ms                               ratio");
+    let words = arpa::words(&mut rng, 60_000);
+    let whole = Model::new(&words, 30_000, 8_192);
+    let half_text = Model::new(&words, 30_000, 4_096);
+    let half_words = Model::new(&words[..30_000], 30_000, 8_192);
+    let half_both = Model::new(&words[..30_000], 30_000, 4_096);
+    import_growth("1 MB beside 500 KB", &whole, &half_text);
+    import_growth("60000 words beside 30000", &whole, &half_words);
+    import_growth("both beside half of both", &whole, &half_both);
+}
+
 fn main() {
     decoding();
     println!();
@@ -401,4 +505,6 @@ fn main() {
     reading();
     println!();
     revising();
+    println!();
+    importing();
 }

@@ -1,12 +1,14 @@
-//! A reader as one would write it in a hurry, with `split`, `parse` and HashSets: what reading is measured against.
+//! A reader as one would write it in a hurry, with `split`, `parse` and HashSets: what reading is measured against. And a check of a
+//! loaded book in the same way.
 
+use crate::size;
 use std::collections::HashSet;
 
 fn in_range(x: i32, low: i32, high: i32) -> Option<i32> {
     (low..=high).contains(&x).then_some(x)
 }
 
-fn is_score(x: i32) -> Option<i32> {
+pub fn is_score(x: i32) -> Option<i32> {
     in_range(x, -1_000_000, 1_000_000)
 }
 
@@ -110,4 +112,23 @@ pub fn read(text: &str) -> Option<Vec<i32>> {
     book[4] = seen.phrases as i32;
     book[5] = seen.triples.len() as i32;
     Some(book)
+}
+
+/// Whether a loaded book is a good one, the counts in its first line too.
+pub fn check(book: &[i32]) -> Option<()> {
+    let (mut seen, mut at) = (Seen::default(), 0);
+    while at < book.len() {
+        let kind = *[" ", "B", "P", "T", "U", "D"].get(book[at] as usize)?;
+        let end = at + size(book, at);
+        let row = book.get(at + 1..end)?;
+        let row = if kind == "B" { &row[..3] } else { row };
+        line(kind, row)?;
+        if (kind == "B") != (at == 0) {
+            return None;
+        }
+        seen.add(kind, row)?;
+        at = end;
+    }
+    let counts = [seen.phrases as i32, seen.triples.len() as i32];
+    (seen.few_enough() && book.get(4..6)? == counts).then_some(())
 }
