@@ -2,14 +2,14 @@
  *
  * A list is lent as a pointer and its length. Every call may be handed any list and any number: it answers, or refuses with the number of the
  * question whose answer was no (docs/REFUSALS.md). No call keeps a pointer, allocates, or touches a list beyond its length.
- * A list that a call may write (book or direction of a reading, the book of an addition or a removal, steps, words, store, report) must not overlap another list of the same call;
+ * A list that a call may write (book or direction of a reading, the book of an addition, a removal or an import, steps, words, store, report) must not overlap another list of the same call;
  * lists that are only read may. A pointer is aligned for its type, and not null even where the length is 0.
- * A decode takes 756,000 bytes of stack, a scoring 494,000, reading, checking or revising a book and the two target calls 477,000, reading a direction
- * fewer than 1,000.
+ * A decode takes 756,000 bytes of stack, a scoring 494,000, reading, checking or revising a book and the two target calls 477,000, an import STACK,
+ * reading a direction fewer than 1,000.
  *
  * A loaded book is a list of signed 32-bit numbers: those of its lines, one line after the other, each with its kind first (B 1, P 2, T 3, U 4, D 5), and
  * behind d, eta and u of the B line, which is the first, how many P lines and how many T lines there are. Calls after phrase_read_book are lent just the
- * numbers in use: those that it wrote, or as many as the last addition or removal returned. No call keeps anything of a book from one call to the next.
+ * numbers in use: those that it wrote, or as many as the last addition, removal or import returned. No call keeps anything of a book from one call to the next.
  * A step is three unsigned 16-bit numbers: first, last, entry. Positions and entries count from 1. Numbers left over behind the last whole step
  * are no place. A store is a list of signed 64-bit numbers, eight to a state.
  * A report list gets as many of its values as it has places, and nothing on a refusal.
@@ -45,6 +45,17 @@ int64_t phrase_add_entry(int32_t *book, size_t book_len, size_t used, const int3
  * where `used` is more than the list holds, before all else; 2 to 6, 21 or 20 of the book; 22 where there is no such entry.
  * The places that are freed, at the end of those that were in use, are zero, and those behind them as before; after a refusal all of `book` is. */
 int64_t phrase_remove_entry(int32_t *book, size_t book_len, size_t used, size_t entry);
+
+/* Imports a language model, an ARPA text of order 1 to 3, to the book whose numbers in use are the first `used` of the list: its n-grams become U, D and T
+ * lines after the last line, in the text's order, and the value of <unk> alone becomes u (the book's own stays where the text has none). N-grams that
+ * hold </s>, and those of two or three words that hold <unk> or end in <s>, are passed over. Values become thousandths, the nearest, halves away from 0.
+ * `spelling` is the word list: its k-th line spells word k, for k to 65,534; of equal lines the first counts. <s> is word 0. A line of either text ends in
+ * byte 10 or at the text's end. Those of the word list are taken whole; those of the ARPA text are fields between spaces and tabs, and blank lines, what
+ * stands before the first line \data\ and what stands behind \end\ are passed over. docs/ARPA.md has the form.
+ * Returns how many numbers are then in use, or minus the refusal: 7 where `used` is more than the list holds, before all else; 23 (no such text), 24 (a word
+ * that the word list lacks) or 25 (a value beyond a score's range); 2 to 6, 21 or 20 of the book; 5, 6 or 20 of the longer book; 7 (no room for its lines).
+ * Entries keep their numbers. Places of `book` behind the new lines are as before; after a refusal all of it is. */
+int64_t phrase_import_arpa(const uint8_t *arpa, size_t arpa_len, const uint8_t *spelling, size_t spelling_len, int32_t *book, size_t book_len, size_t used);
 
 /* Asks questions 2 to 6, 21 and 20 of a loaded book. Returns 0, or the refusal. Changes nothing. */
 int32_t phrase_check_book(const int32_t *book, size_t book_len);
