@@ -19,7 +19,12 @@ pub fn import_arpa(text: &[u8], at: usize) {
     let word = line::as_u16(fill);
     let mut list = case_fill::book(word);
     moves::put_front(&mut list, &lent[..n]);
-    let answer = importing::import_arpa(&arpa[..a], &spelling[..s], &mut list[..n], used.size as usize);
+    let answer = importing::import_arpa(
+        &arpa[..a],
+        &spelling[..s],
+        &mut list[..n],
+        used.size as usize,
+    );
     reply::read(answer);
     case_show::book(&list, &lent[..n], word);
 }

@@ -87,7 +87,12 @@ pub extern "C" fn phrase_remove_entry(book: &mut [i32], used: usize, entry: usiz
 
 // Imports an ARPA text, through a word list, to a loaded book: how many numbers are then in use, or minus the refusal.
 #[no_mangle]
-pub extern "C" fn phrase_import_arpa(arpa: &[u8], spelling: &[u8], book: &mut [i32], used: usize) -> i64
+pub extern "C" fn phrase_import_arpa(
+    arpa: &[u8],
+    spelling: &[u8],
+    book: &mut [i32],
+    used: usize,
+) -> i64
     ensures { λ r. ⌜ r ≡ countOrRefusal (importArpa (now (arpa .entry)) (now (spelling .entry)) (now (book .entry)) used) ⌝ }
     ensures { λ _. ⌜ now (book .exit) ≡ importArpaList (now (arpa .entry)) (now (spelling .entry)) (now (book .entry)) used ⌝ }
 {
