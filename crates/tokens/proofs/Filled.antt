@@ -1,6 +1,6 @@
 -- The lines of a text that are not blank, taken apart in one recursion, which is that of a scanner, and that they are those which the
 -- definition splits the text into: into lines by the byte 10 first, and then each line into fields by its blanks.
-use Prim.Native.Nat.{ℕ, suc, _+_, _≤_, _<_}
+use Prim.Native.Nat.{ℕ, suc, _+_, _<_}
 use mathlib.Core.Path.{_≡_, refl, sym, ap, subst, _∙_}
 use mathlib.Core.Bool.{Bool, true, false, cond}
 use mathlib.Core.List.{List, [], _∷_, _++_, append-assoc, append-nil, map}
@@ -9,9 +9,9 @@ use lib.Dec.{eqb, ltb}
 use lib.ListN.{length, take, drop, getD, drop-of-length-le}
 use lib.Seq.{length-take-le}
 use borrow.Author.Tests.{eqb-true, ltb-true, ltb-false, not-true}
-use Rattle.laws.specs.Lists.{all, keep}
+use Rattle.laws.specs.Lists.{keep}
 use Rattle.laws.proofs.Tests.{by-test}
-use Rattle.laws.proofs.Lists.{mem-all, keep-mem, all-mem, all-map, drop-next}
+use Rattle.laws.proofs.Lists.{drop-next}
 use Rattle.meaning.specs.Numerals.{newline, split}
 use Rattle.arpa.specs.Lines.{isBlank, isFilled, splitBlank, fieldsOf, filledLines}
 use Rattle.tokens.specs.Scan.{runLength, isSpace, isPart}
@@ -200,36 +200,3 @@ filled-end fields t i h =
     by-test (ltb i (length t))
     (λ l. let k = ltb-true i (length t) l in rw (drop-next t i 0 k, h k) (filled-newline fields (drop (i + 1) t)))
     (λ l. rw (drop-of-length-le t (ltb-false i (length t) l)) (filled-nothing fields))
-
--- ════ how many there are, and that no field is empty
-
-few-after : (t : List ℕ) → length (filledAfter [] t) ≤ length t
-few-after [] = omega arith
-few-after (b ∷ t) = by (sort b) (few-after t)
-  where
-    rest : length (cut t .lines) ≤ length (filledAfter [] t)
-    rest = by-test (isFilled (line (cut t))) (λ e. rw e (omega arith)) (λ e. rw e (omega arith))
-
-    by : Sort b → length (filledAfter [] t) ≤ length t → length (filledAfter [] (b ∷ t)) ≤ length (b ∷ t)
-    by (Sort.ten e) ih = rw e (omega arith)
-    by (Sort.blank e f) ih = rw (e, f) (omega arith)
-    by (Sort.other e f) ih = rw (e, f) (omega (arith, rest))
-
--- a line that is not blank has a byte of its own
-pub filled-few : (t : List ℕ) → length (filledLines t) ≤ length t
-filled-few t = rw (filled-start t) (few-after t)
-
--- what all pass those that are kept pass
-kept-pass : {A : Type 0} (test kept : A → Bool) (xs : List A) → all test xs ≡ true → all test (keep kept xs) ≡ true
-kept-pass test kept xs h = mem-all test (keep kept xs) (λ x m. all-mem test xs h x (keep-mem kept xs m .0))
-
-fields-filled : (l : List ℕ) → all isFilled (fieldsOf l) ≡ true
-unfolding fieldsOf
-fields-filled l = mem-all isFilled (keep isFilled (splitBlank l)) (λ x m. keep-mem isFilled (splitBlank l) m .1)
-
--- every field of every line has a byte
-pub filled-fields : (t : List ℕ) → all (all isFilled) (filledLines t) ≡ true
-unfolding filledLines
-filled-fields t =
-    kept-pass (all isFilled) isFilled (map fieldsOf (split newline t))
-    (all-map (all isFilled) fieldsOf (split newline t) ∙ mem-all (λ l. all isFilled (fieldsOf l)) (split newline t) (λ l m. fields-filled l))
