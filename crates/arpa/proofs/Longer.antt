@@ -36,7 +36,7 @@ module _ (list : List ℕ) where
   line-no-entry g h = sized-ind (λ words. not (isP (lineOf (map (wordNumber list) words) (g .score) (g .weight))) ≡ true) (λ y. refl) (λ w y. refl) (λ v w y. refl) (g .words) h
 
   module _ (test : List ℤ → Bool) (one : (g : Ngram) → isSized g ≡ true → test (importedLine list g) ≡ true) where
-    all-imported : (gs : List Ngram) → all isSized gs ≡ true → all test (map (importedLine list) gs) ≡ true
+    pub all-imported : (gs : List Ngram) → all isSized gs ≡ true → all test (map (importedLine list) gs) ≡ true
     all-imported [] h = refl
     all-imported (g ∷ gs) h = let b = both (isSized g) (all isSized gs) h in both-of (one g (b .0)) (all-imported gs (b .1))
 

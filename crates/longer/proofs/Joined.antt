@@ -1,19 +1,16 @@
 -- The survey of a book's lines, carried on over the imported lines, is that of the longer book: its first line differs in u and in the counts alone.
 use Prim.Native.Nat.{ℕ, _+_}
 use mathlib.Core.Path.{_≡_, refl, sym, ap, _∙_}
-use mathlib.Core.Bool.{true, _&&_}
+use mathlib.Core.Bool.{true}
 use mathlib.Core.List.{List, [], _∷_, _++_}
 use native.Mathlib.Omega.{arith}
-use lib.IntN.{ℤ, pos, negℤ}
+use lib.IntN.{ℤ}
 use lib.ListN.{getD}
 use Rattle.laws.specs.Bits.{one}
 use Rattle.laws.specs.Lists.{all, count}
 use Rattle.laws.proofs.Lists.{count-cons}
-use Rattle.laws.proofs.Integers.{eqℤ-refl}
-use Rattle.laws.proofs.Tests.{both, both-of}
-use Rattle.meaning.specs.Questions.{withinℤ}
-use Rattle.meaning.specs.Bounds.{penaltyMost}
-use Rattle.meaning.specs.Book.{InList, isP, isT, numberAt, isScore, isInRange, isCounted, orderOf, isGram, withCounts}
+use Rattle.laws.proofs.Tests.{both}
+use Rattle.meaning.specs.Book.{InList, numberAt, isScore, isInRange, isCounted, orderOf, isGram, withCounts}
 use Rattle.meaning.proofs.Ranges.{Passed}
 use Rattle.meaning.proofs.Revised.{bRecord, passed-ind}
 use Rattle.lines.specs.Kinds.{kindOf}
@@ -25,6 +22,7 @@ use Rattle.loading.specs.Loaded.{WholeAs}
 use Rattle.arpa.specs.File.{isArpa}
 use Rattle.arpa.specs.Import.{importedLines, longerLines}
 use Rattle.arpa.proofs.Longer.{unseenOf, longer}
+use Rattle.arpa.proofs.Asked.{first-ranged, first-counted}
 
 -- ---- lines behind others
 
@@ -48,16 +46,9 @@ grams-++ index n (x ∷ xs) ys =
 -- ---- the first line
 
 module _ (d eta u v : ℤ) (rest others : List (List ℤ)) where
-  -- with another score u, and other counts, it is in range too
-  first-ranged : isInRange (bRecord d eta u rest) ≡ true → isScore v ≡ true → isInRange (bRecord d eta v others) ≡ true
-  unfolding isInRange
-  first-ranged r h =
-      let b = both (withinℤ (pos 0) (pos 32) d && withinℤ (negℤ (pos penaltyMost)) (pos penaltyMost) eta) (isScore u) r in
-      both-of (b .0) h
-
   same-first : isInRange (bRecord d eta u rest) ≡ true → isScore v ≡ true → withLine fresh (bRecord d eta u rest) ≡ withLine fresh (bRecord d eta v others)
   unfolding withLine
-  same-first r h = rw (r, first-ranged r h)
+  same-first r h = rw (r, first-ranged d eta u v rest others r h)
 
 module _ (d eta u v : ℤ) (rest more : List (List ℤ)) where
   surveys : isInRange (bRecord d eta u rest) ≡ true → isScore v ≡ true
@@ -75,10 +66,6 @@ module _ (d eta u v : ℤ) (rest more : List (List ℤ)) where
       let e : count isGram rest ≡ 0 + count isGram rest = omega arith in
       ap (λ (n : ℕ). gramsFrom (gramsFrom index 0 rest) n more) (grams-counted (bRecord d eta u rest ∷ rest) ∙ e)
       ∙ sym (grams-++ index 0 rest more)
-
-counts : (d eta u : ℤ) (rest : List (List ℤ)) → isCounted InList (bRecord d eta u rest ∷ rest) ≡ true
-unfolding isCounted
-counts d eta u rest = rw (eqℤ-refl (pos (count isP rest)), eqℤ-refl (pos (count isT rest)))
 
 -- ---- the longer book
 
@@ -110,5 +97,5 @@ module _ (text list : List ℕ) (arpa : isArpa text ≡ true) (index₀ index ta
           tallied = j .tallied ∙ tallies d eta u (unseenOf text list u) rest more;
           gathered = j .gathered ∙ gathers d eta u (unseenOf text list u) rest more index₀;
         },
-        counts d eta (unseenOf text list u) (rest ++ more),
+        first-counted d eta (unseenOf text list u) (rest ++ more),
       )

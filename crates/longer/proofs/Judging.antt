@@ -6,7 +6,7 @@ use mathlib.Core.List.{List, [], _∷_, _++_, map}
 use native.Mathlib.Omega.{arith}
 use borrow.Author.Tests.{leb-true, eqb-true, eqb-false}
 use lib.Dec.{eqb, leb}
-use lib.IntN.{ℤ, pos, negℤ}
+use lib.IntN.{ℤ, pos}
 use lib.ListN.{length, getD, drop, length-append, length-drop}
 use Rattle.laws.specs.Bits.{one}
 use Rattle.laws.specs.Lists.{all, count, concat}
@@ -14,13 +14,12 @@ use Rattle.laws.proofs.Lists.{count-++, count-cons}
 use Rattle.laws.proofs.Tests.{both, by-test, clash}
 use Rattle.laws.specs.Integers.{eqℤ}
 use Rattle.laws.proofs.Linear.{signed}
-use Rattle.meaning.specs.Questions.{_unless_, _orelse_, withinℤ, number}
-use Rattle.meaning.specs.Bounds.{penaltyMost}
-use Rattle.meaning.specs.Book.{InList, phrasesMost, gramsMost, numberAt, isScore, isWeight, isKind, isT, isU, isD, Book, isWhole, isInRange, isNotTooLong, linesRefusal, loadedLines, bookRefusal, withCounts}
+use Rattle.meaning.specs.Questions.{_unless_, _orelse_, number}
+use Rattle.meaning.specs.Book.{InList, phrasesMost, gramsMost, isKind, isT, isU, isD, Book, isWhole, isNotTooLong, linesRefusal, loadedLines, bookRefusal, withCounts}
 use Rattle.meaning.proofs.Chains.{first-passes, rest-passes, test-passes}
 use Rattle.meaning.proofs.Numbered.{number-from, refused-first}
 use Rattle.meaning.proofs.Ranges.{Passed, lines-passed}
-use Rattle.meaning.proofs.Revised.{bRecord, passed-ind}
+use Rattle.meaning.proofs.Revised.{passed-ind}
 use Rattle.meaning.proofs.Sizes.{passed-few}
 use Rattle.book.specs.declared.survey.Survey.{Survey}
 use Rattle.book.specs.Survey.{fresh, withLine, surveyFrom, noTally, withKind, tallyFrom, gramCount, Few}
@@ -33,7 +32,8 @@ use Rattle.arpa.specs.Words.{wordNumber}
 use Rattle.arpa.specs.Import.{importedOf, lineOf, importedLine, importedLines, unknownOf, unseenBy, longerLines, areKnown, areScores}
 use Rattle.outline.specs.Walk.{Outlines}
 use Rattle.arpa.proofs.Ngrams.{isSized, sized-ind, imported-sized}
-use Rattle.arpa.proofs.Longer.{unseenOf, longer, longer-refusal}
+use Rattle.arpa.proofs.Longer.{longer, longer-refusal}
+use Rattle.arpa.proofs.Asked.{unseen-score}
 use Rattle.arpa_model.specs.declared.walk.Cursor.{Cursor}
 use Rattle.arpa_model.specs.declared.model.Model.{Model}
 use Rattle.arpa_model.specs.Walk.{ngramsAt}
@@ -119,24 +119,6 @@ unfolding importedLines
 imported-size text list a = lines-size list (importedOf text) (imported-sized text a)
 
 -- ════ the longer book
-
--- the u of a book that passes
-u-score : (lines : List (List ℤ)) → Passed InList lines → isScore (numberAt (getD lines 0 []) 3) ≡ true
-unfolding isInRange
-u-score = passed-ind (λ lines. isScore (numberAt (getD lines 0 []) 3) ≡ true) (λ d eta u rest p. both (withinℤ (pos 0) (pos 32) d && withinℤ (negℤ (pos penaltyMost)) (pos penaltyMost) eta) (isScore u) (both (isInRange (bRecord d eta u rest)) (all isInRange rest) (p .ranged) .0) .1)
-
--- its u is a score
-unseen-score : (text list : List ℕ) (lines : List (List ℤ)) → areScores text ≡ true → Passed InList lines → isScore (unseenOf text list (numberAt (getD lines 0 []) 3)) ≡ true
-unfolding areScores
-unseen-score text list lines h p =
-    by (unknownOf text) (both (all (λ g. isScore (g .score) && isWeight (g .weight)) (importedOf text)) (all (λ g. isScore (g .score)) (unknownOf text)) h .1)
-  where
-    first : isScore (numberAt (getD lines 0 []) 3) ≡ true
-    first = u-score lines p
-
-    by : (gs : List Ngram) → all (λ g. isScore (g .score)) gs ≡ true → isScore (unseenBy gs (numberAt (getD lines 0 []) 3)) ≡ true
-    by [] k = first
-    by (g ∷ gs) k = both (isScore (g .score)) (all (λ g. isScore (g .score)) gs) k .0
 
 -- its n-grams of each kind are those of the book and the imported ones
 counts-longer : (text list : List ℕ) (k : ℕ) → 3 ≤ k → k ≤ 5 → (lines : List (List ℤ)) → Passed InList lines → count (isKind k) (withCounts (longerLines text list lines)) ≡ count (isKind k) (lines ++ importedLines text list)
