@@ -25,7 +25,7 @@ use Rattle.arpa.specs.Words.{wordNumber, isKnown}
 use Rattle.arpa.specs.Import.{lineOf, importedLine, importedOf, importedLines, longerLines, longerBook, areKnown, areScores, arpaRefusal, importRefusal}
 use Rattle.arpa.specs.BackOff.{ofListed, backOff, unigram, bigram, trigram}
 use Rattle.arpa.proofs.Ngrams.{isSized, sized-ind, imported-sized}
-use Rattle.arpa.proofs.Spelled.{bytes-same, numbers-same}
+use Rattle.arpa.proofs.Spelled.{bytes-same, Spells, SpellRow, row-none, row-more}
 use Rattle.arpa.proofs.Longer.{unseenOf, imported-grams, longer}
 
 -- ════ an n-gram's line states the n-gram
@@ -49,16 +49,16 @@ module _ (list : List ℕ) where
   stated-weight g h = sized-ind (λ words. length words ≤ 2 → gramOf (lineOf (map (wordNumber list) words) (g .score) (g .weight)) .k ≡ g .weight) (λ y l. refl) (λ w y l. refl) (λ v w y l. absurd (omega arith)) (g .words) h
 
   -- what is listed under some words is the same by their numbers and by their spelling
-  module _ (number : Gram → ℤ) (own : Ngram → ℤ) (words : List (List ℕ)) (known : all (isKnown list) words ≡ true)
+  module _ (number : Gram → ℤ) (own : Ngram → ℤ) (words : List (List ℕ)) (numbers : List ℕ) (row : SpellRow list words numbers)
       (same : (g : Ngram) → isSized g ≡ true → g .words ≡ words → number (stated g) ≡ own g) where
     listed-same : (other : ℤ) (gs : List Ngram) → all isSized gs ≡ true → all (λ g. all (isKnown list) (g .words)) gs ≡ true
-        → listed number other (map (wordNumber list) words) (map stated gs) ≡ ofListed own other words gs
+        → listed number other numbers (map stated gs) ≡ ofListed own other words gs
     listed-same other [] h k = refl
     listed-same other (g ∷ gs) h k =
         let s = both (isSized g) (all isSized gs) h in
         let b = both (all (isKnown list) (g .words)) (all (λ g. all (isKnown list) (g .words)) gs) k in
-        let e : eqList eqb (stated g .words) (map (wordNumber list) words) ≡ eqList eqBytes (g .words) words
-        = ap (λ (ws : List ℕ). eqList eqb ws (map (wordNumber list) words)) (stated-words g (s .0)) ∙ numbers-same list (g .words) words (b .0) known in
+        let e : eqList eqb (stated g .words) numbers ≡ eqList eqBytes (g .words) words
+        = ap (λ (ws : List ℕ). eqList eqb ws numbers) (stated-words g (s .0)) ∙ row (g .words) (b .0) in
         by-test (eqList eqBytes (g .words) words)
         (λ t. rw (e, t) (same g (s .0) (eqList-is eqBytes bytes-same (g .words) words t)))
         (λ f. rw (e, f) (listed-same other gs (s .1) (b .1)))
@@ -66,32 +66,28 @@ module _ (list : List ℕ) where
 -- ════ the scores
 
 module _ (list : List ℕ) (u : ℤ) (gs : List Ngram) (sized : all isSized gs ≡ true) (known : all (λ g. all (isKnown list) (g .words)) gs ≡ true) where
-  -- the word's number
-  abbrev num : List ℕ → ℕ
-  num word = wordNumber list word
+  score-same : (other : ℤ) (words : List (List ℕ)) (numbers : List ℕ) → SpellRow list words numbers → listed (λ g. g .s) other numbers (map (stated list) gs) ≡ ofListed (λ g. g .score) other words gs
+  score-same other words numbers r = listed-same list (λ g. g .s) (λ g. g .score) words numbers r (λ g h _. stated-score list g h) other gs sized known
 
-  score-same : (other : ℤ) (words : List (List ℕ)) → all (isKnown list) words ≡ true → listed (λ g. g .s) other (map num words) (map (stated list) gs) ≡ ofListed (λ g. g .score) other words gs
-  score-same other words k = listed-same list (λ g. g .s) (λ g. g .score) words k (λ g h _. stated-score list g h) other gs sized known
+  weight-same : (words : List (List ℕ)) (numbers : List ℕ) → SpellRow list words numbers → length words ≤ 2 → listed (λ g. g .k) (pos 0) numbers (map (stated list) gs) ≡ backOff u gs words
+  weight-same words numbers r l = listed-same list (λ g. g .k) (λ g. g .weight) words numbers r (λ g h e. stated-weight list g h (rw e l)) (pos 0) gs sized known
 
-  weight-same : (words : List (List ℕ)) → all (isKnown list) words ≡ true → length words ≤ 2 → listed (λ g. g .k) (pos 0) (map num words) (map (stated list) gs) ≡ backOff u gs words
-  weight-same words k l = listed-same list (λ g. g .k) (λ g. g .weight) words k (λ g h e. stated-weight list g h (rw e l)) (pos 0) gs sized known
-
-  word-same : (y : List ℕ) → isKnown list y ≡ true → wordScore u (map (stated list) gs) (num y) ≡ unigram u gs y
+  word-same : (y : List ℕ) (c : ℕ) → Spells list y c → wordScore u (map (stated list) gs) c ≡ unigram u gs y
   unfolding wordScore unigram
-  word-same y ky = score-same u (y ∷ []) (both-of ky refl)
+  word-same y c sy = score-same u (y ∷ []) (c ∷ []) (row-more list y c [] [] sy (row-none list))
 
-  pair-same : (w y : List ℕ) → isKnown list w ≡ true → isKnown list y ≡ true → pairScore u (map (stated list) gs) (num w) (num y) ≡ bigram u gs w y
+  pair-same : (w y : List ℕ) (b c : ℕ) → Spells list w b → Spells list y c → pairScore u (map (stated list) gs) b c ≡ bigram u gs w y
   unfolding pairScore bigram
-  pair-same w y kw ky =
-      score-same _ (w ∷ y ∷ []) (both-of kw (both-of ky refl))
-      ∙ rw (weight-same (w ∷ []) (both-of kw refl) (omega arith), word-same y ky) refl
+  pair-same w y b c sw sy =
+      score-same _ (w ∷ y ∷ []) (b ∷ c ∷ []) (row-more list w b _ _ sw (row-more list y c [] [] sy (row-none list)))
+      ∙ rw (weight-same (w ∷ []) (b ∷ []) (row-more list w b [] [] sw (row-none list)) (omega arith), word-same y c sy) refl
 
-  triple-same : (v w y : List ℕ) → isKnown list v ≡ true → isKnown list w ≡ true → isKnown list y ≡ true
-      → backedOff u (map (stated list) gs) (num v) (num w) (num y) ≡ trigram u gs v w y
+  triple-same : (v w y : List ℕ) (a b c : ℕ) → Spells list v a → Spells list w b → Spells list y c
+      → backedOff u (map (stated list) gs) a b c ≡ trigram u gs v w y
   unfolding backedOff trigram
-  triple-same v w y kv kw ky =
-      score-same _ (v ∷ w ∷ y ∷ []) (both-of kv (both-of kw (both-of ky refl)))
-      ∙ rw (weight-same (v ∷ w ∷ []) (both-of kv (both-of kw refl)) (omega arith), pair-same w y kw ky) refl
+  triple-same v w y a b c sv sw sy =
+      score-same _ (v ∷ w ∷ y ∷ []) (a ∷ b ∷ c ∷ []) (row-more list v a _ _ sv (row-more list w b _ _ sw (row-more list y c [] [] sy (row-none list))))
+      ∙ rw (weight-same (v ∷ w ∷ []) (a ∷ b ∷ []) (row-more list v a _ _ sv (row-more list w b [] [] sw (row-none list))) (omega arith), pair-same w y b c sw sy) refl
 
 -- ════ the imported book
 
@@ -139,14 +135,14 @@ module _ (text list : List ℕ) where
           let k : keep isGram (rest ++ importedLines text list) ≡ importedLines text list = keep-++ isGram rest (importedLines text list) ∙ rw (none, keep-all isGram (importedLines text list) (imported-grams text list arpa)) refl in
           (ap (map gramOf) k ∙ map-map gramOf (importedLine list) (importedOf text), refl)
 
-  -- the theorem: of words that the file may spell, `<s>` and the words of the word list
+  -- the theorem, of every triple of numbers: each is spelled by the known word that has it (`spells-known`) or, where none has it, by any word that is
+  -- not known (`spells-none`)
   pub imported-score : (book : List ℤ) (used : ℕ) → importRefusal text list book used ≡ 0 → ListsNone book used
-      → (v w y : List ℕ) → isKnown list v ≡ true → isKnown list w ≡ true → isKnown list y ≡ true
-      → tripleScore (bookOf (longerBook text list book used)) (wordNumber list v) (wordNumber list w) (wordNumber list y)
-      ≡ trigram (unseenOf text list (bookOf (take used book) .unseen)) (importedOf text) v w y
+      → (v w y : List ℕ) (a b c : ℕ) → Spells list v a → Spells list w b → Spells list y c
+      → tripleScore (bookOf (longerBook text list book used)) a b c ≡ trigram (unseenOf text list (bookOf (take used book) .unseen)) (importedOf text) v w y
   unfolding tripleScore bookOf longerBook areKnown
-  imported-score book used e none v w y kv kw ky =
+  imported-score book used e none v w y a b c sv sw sy =
       let t = taken text list book used e in
       let m = longer-model (t .arpa) (linesInUse book used) (t .passed) none in
       rw (longer text list (t .arpa) (linesInUse book used) (t .passed) .lines-are, m .0, m .1)
-      (triple-same list (unseenOf text list (bookOf (take used book) .unseen)) (importedOf text) (imported-sized text (t .arpa)) (t .known) v w y kv kw ky)
+      (triple-same list (unseenOf text list (bookOf (take used book) .unseen)) (importedOf text) (imported-sized text (t .arpa)) (t .known) v w y a b c sv sw sy)

@@ -1,7 +1,7 @@
 -- A word of the word list has a number, and no other word has it.
 use Prim.Native.Nat.{ℕ, suc, _+_, _≤_}
 use mathlib.Core.Path.{_≡_, refl, sym, ap, _∙_}
-use mathlib.Core.Bool.{true}
+use mathlib.Core.Bool.{true, false, true≢false}
 use mathlib.Core.List.{List, [], _∷_, map}
 use mathlib.Core.Logic.{_⊎_, inl, inr, ⊎-elim}
 use native.Mathlib.Omega.{arith}
@@ -70,17 +70,32 @@ number-same list a b p q e =
     (λ t. let z = rw (s, t) at e in let k = leb-true 1 (spelled list a) (rw s at p) in absurd (omega arith))
     (λ t. first-same 1 a b (spellings list) (omega arith) (rw (s, t) at e) (leb-true 1 (spelled list a) (rw s at p))))
 
+-- a word and a number are the same to every word that is known
+abbrev pub Spells : List ℕ → List ℕ → ℕ → Type 0
+Spells list word n = (x : List ℕ) → isKnown list x ≡ true → eqb (wordNumber list x) n ≡ eqBytes x word
+
+-- a word that is known spells its number
+pub spells-known : (list word : List ℕ) → isKnown list word ≡ true → Spells list word (wordNumber list word)
+spells-known list word k x p =
+    same-test
+    (λ t. rw (number-same list x word p k (eqb-true (wordNumber list x) (wordNumber list word) t)) (bytes-refl word))
+    (λ t. eq-eqb (wordNumber list x) (wordNumber list word) (ap (wordNumber list) (bytes-same x word t)))
+
+-- a number that no known word has is spelled by any word that is not known
+pub spells-none : (list word : List ℕ) (n : ℕ) → isKnown list word ≡ false → ((x : List ℕ) → isKnown list x ≡ true → eqb (wordNumber list x) n ≡ false) → Spells list word n
+spells-none list word n k none x p =
+    same-test
+    (λ t. absurd (true≢false (sym t ∙ none x p)))
+    (λ t. absurd (true≢false (sym p ∙ ap (isKnown list) (bytes-same x word t) ∙ k)))
+
 -- so it is of rows of words
-pub numbers-same : (list : List ℕ) (xs ys : List (List ℕ)) → all (isKnown list) xs ≡ true → all (isKnown list) ys ≡ true
-    → eqList eqb (map (wordNumber list) xs) (map (wordNumber list) ys) ≡ eqList eqBytes xs ys
-numbers-same list [] [] p q = refl
-numbers-same list [] (y ∷ ys) p q = refl
-numbers-same list (x ∷ xs) [] p q = refl
-numbers-same list (x ∷ xs) (y ∷ ys) p q =
-    let k = both (isKnown list x) (all (isKnown list) xs) p in
-    let l = both (isKnown list y) (all (isKnown list) ys) q in
-    let one : eqb (wordNumber list x) (wordNumber list y) ≡ eqBytes x y
-    = same-test
-    (λ t. rw (number-same list x y (k .0) (l .0) (eqb-true (wordNumber list x) (wordNumber list y) t)) (bytes-refl y))
-    (λ t. eq-eqb (wordNumber list x) (wordNumber list y) (ap (wordNumber list) (bytes-same x y t))) in
-    rw (one, numbers-same list xs ys (k .1) (l .1)) refl
+abbrev pub SpellRow : List ℕ → List (List ℕ) → List ℕ → Type 0
+SpellRow list words numbers = (xs : List (List ℕ)) → all (isKnown list) xs ≡ true → eqList eqb (map (wordNumber list) xs) numbers ≡ eqList eqBytes xs words
+
+pub row-none : (list : List ℕ) → SpellRow list [] []
+row-none list [] p = refl
+row-none list (x ∷ xs) p = refl
+
+pub row-more : (list word : List ℕ) (n : ℕ) (words : List (List ℕ)) (numbers : List ℕ) → Spells list word n → SpellRow list words numbers → SpellRow list (word ∷ words) (n ∷ numbers)
+row-more list word n words numbers s r [] p = refl
+row-more list word n words numbers s r (x ∷ xs) p = let k = both (isKnown list x) (all (isKnown list) xs) p in rw (s x (k .0), r xs (k .1)) refl
