@@ -4,12 +4,10 @@ use mathlib.Core.Path.{_≡_}
 use mathlib.Core.List.{List, []}
 use lib.IntN.{ℤ, pos, negℤ}
 use lib.ListN.{length}
-use Rattle.meaning.specs.Book.{bookOf}
-use Rattle.meaning.specs.Search.{answer}
-use Rattle.meaning.specs.Reply.{Reply, refused, done, writtenIf, filledWith, totalsNumbers, countsOf, Lent, decodeRefusal, answerSteps, decode, decodedWords, decodedStore}
+use Rattle.meaning.specs.Reply.{Reply, refused, done, filledWith, totalsNumbers, countsOf, Lent, decode, decodedWords, decodedStore}
 use Rattle.meaning.specs.declared.Totals.{Totals}
 use Rattle.meaning.specs.declared.Answer.{Answer}
-use Rattle.lists.specs.Steps.{recordsIn, numbersOf}
+use Rattle.lists.specs.Steps.{recordsIn, decodedNumbers}
 
 -- "numbers written, or minus the refusal"
 abbrev pub countOrRefusal : Reply ℕ → ℤ
@@ -34,11 +32,6 @@ decodeReport (refused k) = []
 -- what is lent: each whole step is a place of the step list
 abbrev pub lentNumbers : List ℕ → List ℕ → List ℤ → Lent
 lentNumbers steps words store = record { steps = length (recordsIn steps); words = length words; store = length store }
-
--- the steps as numbers, at the beginning of those that are lent
-unfoldable pub decodedNumbers : List ℤ → List ℕ → ℤ → Lent → List ℕ → List ℕ
-decodedNumbers loaded direction width lent numbers =
-    writtenIf (decodeRefusal loaded direction width lent) (numbersOf (answerSteps (answer (bookOf loaded) direction width))) numbers
 
 -- the whole of a decode into plain numbers: its answer, and each lent list before (₀) and after (₁). "A report list gets as many of
 -- its values as it has places"

@@ -1,6 +1,12 @@
 -- Steps as C lends them, three numbers each.
 use Prim.Native.Nat.{ℕ}
 use mathlib.Core.List.{List, [], _∷_}
+use lib.IntN.{ℤ}
+use lib.ListN.{length}
+use Rattle.meaning.specs.Book.{bookOf}
+use Rattle.meaning.specs.Search.{answer}
+use Rattle.meaning.specs.Reply.{writtenIf, Lent, decodeRefusal, answerSteps}
+use Rattle.meaning.specs.Round.{Form}
 use Rattle.meaning.specs.declared.Step.{Step}
 
 -- "Steps are three numbers each (first, last, entry); numbers left over behind the last whole step are no place."
@@ -14,3 +20,12 @@ recordsIn (first ∷ last ∷ entry ∷ numbers) = record { first = first; last 
 abbrev pub numbersOf : List Step → List ℕ
 numbersOf [] = []
 numbersOf (step ∷ steps) = step .first ∷ step .last ∷ step .entry ∷ numbersOf steps
+
+-- the steps as numbers, at the beginning of those that are lent
+unfoldable pub decodedNumbers : List ℤ → List ℕ → ℤ → Lent → List ℕ → List ℕ
+decodedNumbers loaded direction width lent numbers =
+    writtenIf (decodeRefusal loaded direction width lent) (numbersOf (answerSteps (answer (bookOf loaded) direction width))) numbers
+
+-- the steps of a round as numbers: 32 places are 96 of them
+abbrev pub asNumbers : Form ℕ
+asNumbers = record { places = λ numbers. length (recordsIn numbers); size = 96; decoded = decodedNumbers }

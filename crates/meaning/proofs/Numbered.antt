@@ -9,11 +9,11 @@ use Rattle.laws.proofs.Tests.{between}
 use Rattle.meaning.specs.Questions.{_orelse_, within, number}
 use Rattle.meaning.specs.Reply.{Reply, refused, reply}
 use Rattle.meaning.specs.declared.Refusal.{Refusal}
-use Rattle.meaning.specs.declared.Refusal.the-variants.{BookText, LineFields, BLine, NumberRange, LineCount, RepeatedTriple, ListTooShort, DirectionText, WordCount, WordRange, Width, StepsOrWordsTooShort, StoreTooSmall, NoDerivation, LastSetEmpty, DoesNotFit, CoveredTwice, JumpTooLong, Uncovered, RepeatedShorter, StoredCounts, AbsentEntry, ArpaText, UnlistedWord, ValueRange}
+use Rattle.meaning.specs.declared.Refusal.the-variants.{BookText, LineFields, BLine, NumberRange, LineCount, RepeatedTriple, ListTooShort, DirectionText, WordCount, WordRange, Width, StepsOrWordsTooShort, StoreTooSmall, NoDerivation, LastSetEmpty, DoesNotFit, CoveredTwice, JumpTooLong, Uncovered, RepeatedShorter, StoredCounts, AbsentEntry, ArpaText, UnlistedWord, ValueRange, RoundEnds}
 
 -- the refusals by their numbers
 abbrev byNumber : ℕ → Refusal
-byNumber k = getD (BookText ∷ LineFields ∷ BLine ∷ NumberRange ∷ LineCount ∷ RepeatedTriple ∷ ListTooShort ∷ DirectionText ∷ WordCount ∷ WordRange ∷ Width ∷ StepsOrWordsTooShort ∷ StoreTooSmall ∷ NoDerivation ∷ LastSetEmpty ∷ DoesNotFit ∷ CoveredTwice ∷ JumpTooLong ∷ Uncovered ∷ RepeatedShorter ∷ StoredCounts ∷ AbsentEntry ∷ ArpaText ∷ UnlistedWord ∷ ValueRange ∷ []) (k - 1) BookText
+byNumber k = getD (BookText ∷ LineFields ∷ BLine ∷ NumberRange ∷ LineCount ∷ RepeatedTriple ∷ ListTooShort ∷ DirectionText ∷ WordCount ∷ WordRange ∷ Width ∷ StepsOrWordsTooShort ∷ StoreTooSmall ∷ NoDerivation ∷ LastSetEmpty ∷ DoesNotFit ∷ CoveredTwice ∷ JumpTooLong ∷ Uncovered ∷ RepeatedShorter ∷ StoredCounts ∷ AbsentEntry ∷ ArpaText ∷ UnlistedWord ∷ ValueRange ∷ RoundEnds ∷ []) (k - 1) BookText
 
 -- each has a number of 1 to 99 and can be told by it: the one proof that goes through them all
 each : (refusal : Refusal) → (within 1 99 (number refusal) ≡ true) × (byNumber (number refusal) ≡ refusal)
@@ -42,6 +42,7 @@ each AbsentEntry = (refl, refl)
 each ArpaText = (refl, refl)
 each UnlistedWord = (refl, refl)
 each ValueRange = (refl, refl)
+each RoundEnds = (refl, refl)
 
 pub number-from : (refusal : Refusal) → 1 ≤ number refusal
 number-from refusal = between 1 99 (number refusal) (each refusal .0) .0

@@ -9,4 +9,5 @@ pub mod State
 pub mod Search
 pub mod Reply
 pub mod Revision
+pub mod Round
 pub mod Render

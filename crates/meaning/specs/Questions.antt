@@ -5,7 +5,7 @@ use lib.Dec.{leb}
 use lib.IntN.{ℤ}
 use lib.Signed.{leZ}
 use Rattle.meaning.specs.declared.Refusal.{Refusal}
-use Rattle.meaning.specs.declared.Refusal.the-variants.{BookText, LineFields, BLine, NumberRange, LineCount, RepeatedTriple, ListTooShort, DirectionText, WordCount, WordRange, Width, StepsOrWordsTooShort, StoreTooSmall, NoDerivation, LastSetEmpty, DoesNotFit, CoveredTwice, JumpTooLong, Uncovered, RepeatedShorter, StoredCounts, AbsentEntry, ArpaText, UnlistedWord, ValueRange}
+use Rattle.meaning.specs.declared.Refusal.the-variants.{BookText, LineFields, BLine, NumberRange, LineCount, RepeatedTriple, ListTooShort, DirectionText, WordCount, WordRange, Width, StepsOrWordsTooShort, StoreTooSmall, NoDerivation, LastSetEmpty, DoesNotFit, CoveredTwice, JumpTooLong, Uncovered, RepeatedShorter, StoredCounts, AbsentEntry, ArpaText, UnlistedWord, ValueRange, RoundEnds}
 
 -- "No: k": the refusal k where the test fails, 0 (no refusal) where it passes
 infix 25 _unless_
@@ -61,3 +61,4 @@ number AbsentEntry = 22
 number ArpaText = 23
 number UnlistedWord = 24
 number ValueRange = 25
+number RoundEnds = 26

@@ -77,6 +77,7 @@ pub enum Refusal {
     ArpaText,
     UnlistedWord,
     ValueRange,
+    RoundEnds,
 }
 
 // The refusal's number in the papers.
@@ -109,6 +110,7 @@ pub fn number_of(refusal: Refusal) -> usize
         Refusal::ArpaText => 23,
         Refusal::UnlistedWord => 24,
         Refusal::ValueRange => 25,
+        Refusal::RoundEnds => 26,
     }
 }
 
