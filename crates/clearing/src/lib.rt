@@ -5,6 +5,7 @@ ghost use lib.IntN.{pos};
 ghost use lib.ListN.{length, replicate};
 ghost use Prim.Native.Nat.{_+_, _*_, _≤_};
 ghost use Rattle.store.specs.Store.{Indexed, Zeroed};
+ghost use Rattle.clearing.specs.Swept.{Swept};
 
 // Every number of the store is zero, also those past the last place.
 pub fn clear(store: &mut [i64])
@@ -14,6 +15,16 @@ pub fn clear(store: &mut [i64])
     while i < store.len() {
         store[i] = 0;
         i += 1;
+    }
+}
+
+// The same, where it is not known already (`swept`): a store that is known to be all zero is not gone through again.
+pub fn sweep(store: &mut [i64], swept: bool)
+    requires { ⌜ Swept swept (now store) ⌝ }
+    ensures { λ _. ⌜ now (store .exit) ≡ replicate (length (now (store .entry))) (pos 0) ⌝ }
+{
+    if !swept {
+        clear(store);
     }
 }
 

@@ -18,6 +18,7 @@ ghost use lib.Dec.{leb};
 ghost use Rattle.derivation.specs.Prepared.{Prepared};
 ghost use Rattle.options.specs.Options.{optionsSize};
 ghost use Rattle.states.specs.Ghost.{Starting};
+ghost use Rattle.clearing.specs.Swept.{Swept};
 ghost use Rattle.decoder.specs.Decodes.{refusedBy, noAnswer, Concluded, Searched, PlainDecodes};
 ghost use Rattle.extending.specs.Extend.{Searchable};
 
@@ -76,7 +77,7 @@ fn conclude(
 }
 
 // The search from the start state on, and what it answers: 13 where the store is too small for the states entered. The store may
-// hold anything at first and is all zero afterwards.
+// hold anything at first, unless it is known to be `swept`, and is all zero afterwards.
 fn search_for_best(
     store: &mut [i64],
     book: &[i32],
@@ -85,13 +86,15 @@ fn search_for_best(
     options: &[u16],
     beam: Beam,
     words: &mut [u16],
+    swept: bool,
 ) -> PlainReply
     requires { ⌜ Searchable (now book) (now direction) (now index) (now options) (beam .setup) ⌝ }
     requires { ⌜ 8 * wordCount (now direction) ≤ length (now words) ⌝ }
+    requires { ⌜ Swept swept (now store) ⌝ }
     ensures { λ r. ⌜ Searched (bookOf (now (book .entry))) (now (direction .entry)) (beam .width) (length (now (store .entry)) / 8) (now (words .entry)) (now (words .exit)) r ⌝ }
     ensures { λ r. ⌜ now (store .exit) ≡ replicate (length (now (store .entry))) (pos 0) ⌝ }
 {
-    clearing::clear(store);
+    clearing::sweep(store, swept);
     match sets::search(store, book, direction, index, options, beam) {
         Grown::Overflow => {
             clearing::clear(store);
@@ -109,29 +112,45 @@ fn has_room(n: usize, room: usize, words: usize) -> bool
     n <= room && 8 * n <= words
 }
 
-// Questions 11 to 15 and the answer, where 2 to 6, 9 and 10 pass; the caller's step list has `room` places.
+// What is lent beside the words: the caller's step list has `room` places, and the store is all zero where `swept` says so.
+pub struct Lent {
+    pub room: usize,
+    pub swept: bool,
+}
+
+// Questions 11 to 15 and the answer, where 2 to 6, 9 and 10 pass.
 pub fn decode_with(
     book: &[i32],
     direction: &[u16],
     index: &[u16],
     options: &mut [u16],
     beam: Beam,
-    room: usize,
+    lent: Lent,
     words: &mut [u16],
     store: &mut [i64],
 ) -> PlainReply
     requires { ⌜ Prepared (now book) (now direction) (now index) (beam .setup) ⌝ }
     requires { ⌜ optionsSize ≤ length (now options) ⌝ }
-    ensures { λ r. ⌜ PlainDecodes (now (book .entry)) (now (direction .entry)) (beam .width) room (now (words .entry)) (now (words .exit)) (now (store .entry)) (now (store .exit)) r ⌝ }
+    requires { ⌜ Swept (lent .swept) (now store) ⌝ }
+    ensures { λ r. ⌜ PlainDecodes (now (book .entry)) (now (direction .entry)) (beam .width) (lent .room) (now (words .entry)) (now (words .exit)) (now (store .entry)) (now (store .exit)) r ⌝ }
 {
     let t = beam.setup;
     let width = beam.width;
     if width < -1 {
         return refused(Refusal::Width);
     }
-    if !has_room(t.n, room, words.len()) {
+    if !has_room(t.n, lent.room, words.len()) {
         return refused(Refusal::StepsOrWordsTooShort);
     }
     options::list_options(book, index, t, direction, options);
-    search_for_best(store, book, direction, index, options, beam, words)
+    search_for_best(
+        store,
+        book,
+        direction,
+        index,
+        options,
+        beam,
+        words,
+        lent.swept,
+    )
 }

@@ -29,58 +29,47 @@ wide c =
     let back : toZ w64 (ofZ w64 (s .args .beam .width)) ≡ s .args .beam .width = search needs in
     omega (arith, signed, rw back at (c .if1 .left))
 
--- src/decode.rt:171:9
 refused-requires : tie.Need-refused-requires
 refused-requires c κs = search needs
 
--- src/decode.rt:171:9
 returns : tie.Need-returns
 returns c = let s = c .before .before .before .before .before .before .before .before in let back : toZ w64 (ofZ w64 (s .args .beam .width)) ≡ s .args .beam .width = search needs in let w : leZ (negsuc 0) (s .args .beam .width) ≡ false = omega (arith, signed, rw back at (c .before .if1 .taken)) in refuses-11 _ _ _ _ _ _ (s .pre .0 .passed) (s .pre .0 .directed) w (c .refused .ensures)
 
--- src/decode.rt:173:9
 has-room-requires : tie.Need-has-room-requires
 has-room-requires c κs = let s = c .before .before .before .before .before .before .before in let R = s .pre .0 in let n = R .n-is in let f = direction-to _ (R .directed) in omega arith
 
--- src/decode.rt:174:9
 refused-requires-2 : tie.Need-refused-requires-2
 refused-requires-2 c κs = search needs
 
--- src/decode.rt:174:9
 returns-2 : tie.Need-returns-2
-returns-2 c = let s = c .before .before .before .before .before .before .before .before .before .before in let w : leZ (negsuc 0) (s .args .beam .width) ≡ true = wide (c .before .before .before) in refuses-12 _ _ _ _ _ _ (s .pre .0 .passed) (s .pre .0 .directed) w (room-is (s .args .room) (length (s .args .words .now)) (s .pre .0 .n-is) (c .before .before .has-room .ensures) ∙ not-true _ (c .before .if2 .taken)) (c .refused2 .ensures)
+returns-2 c = let s = c .before .before .before .before .before .before .before .before .before .before in let w : leZ (negsuc 0) (s .args .beam .width) ≡ true = wide (c .before .before .before) in refuses-12 _ _ _ _ _ _ (s .pre .0 .passed) (s .pre .0 .directed) w (room-is (s .args .lent .room) (length (s .args .words .now)) (s .pre .0 .n-is) (c .before .before .has-room .ensures) ∙ not-true _ (c .before .if2 .taken)) (c .refused2 .ensures)
 
--- src/decode.rt:172:5
 list-options-requires : tie.Need-list-options-requires
 unfolding wordCount
-list-options-requires c κs = let s = c .before .before .before .before .before .before .before .before .before .before in (s .pre .0 .entries-at, (direction-to _ (s .pre .0 .directed), s .pre .1))
+list-options-requires c κs = let s = c .before .before .before .before .before .before .before .before .before .before in (s .pre .0 .entries-at, (direction-to _ (s .pre .0 .directed), s .pre .1 .0))
 
--- src/decode.rt:173:5
 search-for-best-requires : tie.Need-search-for-best-requires
 search-for-best-requires c κs =
     let s = c .before .before .before .before .before .before .before .before .before .before .before .before .before .before .before .before in
-    let l = room-is (s .args .room) (length (s .args .words .now)) (s .pre .0 .n-is) (c .before .before .before .before .before .before .before .before .has-room .ensures) ∙ not-false _ (c .before .before .before .before .before .before .before .if2 .left) in
+    let l = room-is (s .args .lent .room) (length (s .args .words .now)) (s .pre .0 .n-is) (c .before .before .before .before .before .before .before .before .has-room .ensures) ∙ not-false _ (c .before .before .before .before .before .before .before .if2 .left) in
     let o = c .before .before .before .before .before .list-options in
-    (made-searchable (s .pre .0) (o .ensures) (let k = o .kept .1 .1 .1 .1 .0 in search needs), room-both (wordCount (s .args .direction .now)) (s .args .room) (length (s .args .words .now)) l .1)
+    (made-searchable (s .pre .0) (o .ensures) (let k = o .kept .1 .1 .1 .1 .0 in search needs), (room-both (wordCount (s .args .direction .now)) (s .args .lent .room) (length (s .args .words .now)) l .1, s .pre .1 .1))
 
--- src/decode.rt:149:1
 same-length : tie.Need-same-length
 same-length c = search needs
 
--- src/decode.rt:149:1
 same-length-2 : tie.Need-same-length-2
 same-length-2 c = search needs
 
--- src/decode.rt:149:1
 same-length-3 : tie.Need-same-length-3
 same-length-3 c = search needs
 
--- src/decode.rt:149:1
 returns-3 : tie.Need-returns-3
 returns-3 c =
     let s = c .before .before .before .before .before .before .before .before .before .before .before .before .before .before .before .before .before .before .before .before in
     let R = s .pre .0 in
-    let l = room-is (s .args .room) (length (s .args .words .now)) (R .n-is) (c .before .before .before .before .before .before .before .before .before .before .before .before .has-room .ensures) ∙ not-false _ (c .before .before .before .before .before .before .before .before .before .before .before .if2 .left) in
-    let fits = room-both (wordCount (s .args .direction .now)) (s .args .room) (length (s .args .words .now)) l .0 in
+    let l = room-is (s .args .lent .room) (length (s .args .words .now)) (R .n-is) (c .before .before .before .before .before .before .before .before .before .before .before .before .has-room .ensures) ∙ not-false _ (c .before .before .before .before .before .before .before .before .before .before .before .if2 .left) in
+    let fits = room-both (wordCount (s .args .direction .now)) (s .args .lent .room) (length (s .args .words .now)) l .0 in
     let b = c .before .before .before .search-for-best in
     searches _ _ _ _ _ _ (R .passed) (R .directed) (wide (c .before .before .before .before .before .before .before .before .before .before .before .before .before)) l fits (direction-to _ (R .directed)) _ _ (b .ensures .1) _ refl _ (b .ensures .0)
 

@@ -1,5 +1,4 @@
 -- The store is empty before the search; where it overflows or the search is over, it is cleared.
-use borrow.Author.Needs.{needs}
 use mathlib.Core.Path.{refl, sym, _∙_, ap}
 use Prim.Native.Nat.{ℕ}
 use lib.IntN.{pos}
@@ -14,63 +13,52 @@ use Rattle.decoder.proofs.decode.conclude.Reads as conclude-reads
 use Rattle.decoder.proofs.decode.refused.Reads as refused-reads
 use Rattle.sets.proofs.search.Reads as search-reads
 use Rattle.clearing.proofs.clear.Reads as clear-reads
+use Rattle.clearing.proofs.sweep.Reads as sweep-reads
 
--- src/decode.rt:105:5
-clear-requires : tie.Need-clear-requires
-clear-requires c κs = search needs
+sweep-requires : tie.Need-sweep-requires
+sweep-requires c κs = search needs
 
--- src/decode.rt:106:11
 search-requires : tie.Need-search-requires
-search-requires c κs = (c .before .before .before .before .before .before .before .before .pre .0, c .before .before .clear .ensures ∙ ap (λ (m : ℕ). replicate m (pos 0)) (sym (c .before .before .clear .kept .0)))
+search-requires c κs = (c .before .before .before .before .before .before .before .before .pre .0, c .before .before .sweep .ensures ∙ ap (λ (m : ℕ). replicate m (pos 0)) (sym (c .before .before .sweep .kept .0)))
 
--- src/decode.rt:108:36
 enum-told : tie.Need-enum-told
 enum-told c = search needs
 
--- src/decode.rt:108:13
-clear-requires-2 : tie.Need-clear-requires-2
-clear-requires-2 c κs = search needs
+clear-requires : tie.Need-clear-requires
+clear-requires c κs = search needs
 
--- src/decode.rt:109:13
 refused-requires : tie.Need-refused-requires
 refused-requires c κs = search needs
 
--- src/decode.rt:111:19
 enum-known-count : tie.Need-enum-known-count
 enum-known-count c = search needs
 
--- src/decode.rt:111:29
 conclude-requires : tie.Need-conclude-requires
-conclude-requires c κs = let s = c .before .before .before .before .before .before .before .before .before .before .before .before .before .before .before in (s .pre .0 .prepared, (rw (c .before .before .before .count .given .1) at (c .before .before .before .before .before .before .search .ensures), s .pre .1))
+conclude-requires c κs = let s = c .before .before .before .before .before .before .before .before .before .before .before .before .before .before .before in (s .pre .0 .prepared, (rw (c .before .before .before .count .given .1) at (c .before .before .before .before .before .before .search .ensures), s .pre .1 .0))
 
--- src/decode.rt:87:1
 same-length : tie.Need-same-length
 same-length c = search needs
 
--- src/decode.rt:87:1
 returns : tie.Need-returns
-returns c = let s = c .before .before .before .before .before .before .before .before .before .before .before .before .before .before .before .before in let long = c .before .before .before .before .before .before .before .search .kept .0 ∙ c .before .before .before .before .before .before .before .before .before .before .clear .kept .0 in let o = rw (c .before .before .before .before .enum-told .given .1) at (c .before .before .before .before .before .before .before .search .ensures) in (too-small _ _ _ _ (places-lack _ _ _ (rw long at o)) _ _ _ (c .refused .ensures, refl), c .before .before .clear2 .ensures ∙ ap (λ (m : ℕ). replicate m (pos 0)) long)
+returns c = let s = c .before .before .before .before .before .before .before .before .before .before .before .before .before .before .before .before in let long = c .before .before .before .before .before .before .before .search .kept .0 ∙ c .before .before .before .before .before .before .before .before .before .before .sweep .kept .0 in let o = rw (c .before .before .before .before .enum-told .given .1) at (c .before .before .before .before .before .before .before .search .ensures) in (too-small _ _ _ _ (places-lack _ _ _ (rw long at o)) _ _ _ (c .refused .ensures, refl), c .before .before .clear .ensures ∙ ap (λ (m : ℕ). replicate m (pos 0)) long)
 
--- src/decode.rt:87:1
 same-length-2 : tie.Need-same-length-2
 same-length-2 c = search needs
 
--- src/decode.rt:87:1
 same-length-3 : tie.Need-same-length-3
 same-length-3 c = search needs
 
--- src/decode.rt:87:1
 returns-2 : tie.Need-returns-2
-returns-2 c = let long = c .before .before .before .before .before .before .before .before .before .before .search .kept .0 ∙ c .before .before .before .before .before .before .before .before .before .before .before .before .before .clear .kept .0 in let start = rw (c .before .before .before .before .before .before .before .count .given .1) at (c .before .before .before .before .before .before .before .before .before .before .search .ensures) in (large-enough _ _ _ _ (rw long at (places-fit _ _ _ start)) _ _ _ (c .before .before .before .conclude .ensures .0), c .before .before .before .conclude .ensures .1 ∙ ap (λ (m : ℕ). replicate m (pos 0)) long)
+returns-2 c = let long = c .before .before .before .before .before .before .before .before .before .before .search .kept .0 ∙ c .before .before .before .before .before .before .before .before .before .before .before .before .before .sweep .kept .0 in let start = rw (c .before .before .before .before .before .before .before .count .given .1) at (c .before .before .before .before .before .before .before .before .before .before .search .ensures) in (large-enough _ _ _ _ (rw long at (places-fit _ _ _ start)) _ _ _ (c .before .before .before .conclude .ensures .0), c .before .before .before .conclude .ensures .1 ∙ ap (λ (m : ℕ). replicate m (pos 0)) long)
 
 pub search-for-best-spec : {M : Type 1} → statement M
 search-for-best-spec =
     tie.close
     (tie.spec
-    clear-requires
+    sweep-requires
     search-requires
     enum-told
-    clear-requires-2
+    clear-requires
     refused-requires
     enum-known-count
     conclude-requires
