@@ -34,8 +34,20 @@ module _ (loaded : List ℤ) (direction : List ℕ) (width : ℤ) (lent : Lent) 
   unfolding decodedStore
   store-is store = kept-store (number refusal) store (number-from refusal) ∙ ap (λ (k : ℕ). clearedIf k store) (sym before-is)
 
-pub refused-plain : (loaded : List ℤ) (direction : List ℕ) (width : ℤ) (room : ℕ) (words : List ℕ) (store : List ℤ) (refusal : Refusal)
+refused-plain : (loaded : List ℤ) (direction : List ℕ) (width : ℤ) (room : ℕ) (words : List ℕ) (store : List ℤ) (refusal : Refusal)
     → (bookRefusal loaded orelse directionRefusal direction) ≡ number refusal → {r : PlainReply} → r ≡ refusedBy refusal → PlainDecodes loaded direction width room words words store store r
 refused-plain loaded direction width room words store refusal e i =
     let lent : Lent = record { steps = room; words = length words; store = length store } in
     refuses loaded direction width room words store refusal (decode-is loaded direction width lent refusal e) refl (store-is loaded direction width lent refusal e store) i
+
+-- by the book ..
+pub refused-book : (loaded : List ℤ) (direction : List ℕ) (width : ℤ) (room : ℕ) (words : List ℕ) (store : List ℤ) (refusal : Refusal)
+    → bookRefusal loaded ≡ number refusal → {r : PlainReply} → r ≡ refusedBy refusal → PlainDecodes loaded direction width room words words store store r
+refused-book loaded direction width room words store refusal e =
+    refused-plain loaded direction width room words store refusal (ap (λ (k : ℕ). k orelse directionRefusal direction) e ∙ refused-first (number refusal) _ (number-from refusal))
+
+-- .. or by the direction, where the book is open
+pub refused-direction : (loaded : List ℤ) (direction : List ℕ) (width : ℤ) (room : ℕ) (words : List ℕ) (store : List ℤ) (refusal : Refusal)
+    → bookRefusal loaded ≡ 0 → directionRefusal direction ≡ number refusal → {r : PlainReply} → r ≡ refusedBy refusal → PlainDecodes loaded direction width room words words store store r
+refused-direction loaded direction width room words store refusal b e =
+    refused-plain loaded direction width room words store refusal (ap (λ (k : ℕ). k orelse directionRefusal direction) b ∙ e)

@@ -1,40 +1,40 @@
 -- What is asked before gives the refusal, or the lists that the search needs. That a list of so many zeros has this length is said by
 -- `length-replicate`: `search` would compute it, a step for each number.
 use Prim.Native.Nat.{ℕ}
+use native.Mathlib.Omega.{arith}
 use mathlib.Core.Path.{sym, _∙_}
 use lib.ListN.{length-replicate}
-use borrow.Author.Needs.{needs}
-use native.Mathlib.Omega.{arith}
 use mir.Facts.{toZ-ofZ}
-use Rattle.plain.proofs.Whole.{refused-plain}
+use borrow.Author.Needs.{needs}
+use Rattle.plain.proofs.Whole.{refused-book}
 use Rattle.plain.proofs.decode_plain.Statement.{statement}
 use Rattle.plain.proofs.decode_plain.Tie as tie
 use Rattle.plain.proofs.decode_plain.Reads as reads
 use Rattle.plain.proofs.decode_plain.Lts as lts
-use Rattle.decoder.proofs.decode.decode_with.Reads as decode-with-reads
 use Rattle.decoder.proofs.decode.refused.Reads as refused-reads
-use Rattle.opening.proofs.open_and_begin.Reads as open-and-begin-reads
+use Rattle.opening.proofs.open_book.Reads as open-book-reads
+use Rattle.plain.proofs.decode_open.Reads as decode-open-reads
 
-slice-aggregate-open-and-begin : tie.Need-slice-aggregate-open-and-begin
-slice-aggregate-open-and-begin c = sym (length-replicate {A = ℕ} _ 0)
+slice-aggregate-open-book : tie.Need-slice-aggregate-open-book
+slice-aggregate-open-book c = sym (length-replicate {A = ℕ} _ 0)
 
-open-and-begin-requires : tie.Need-open-and-begin-requires
-open-and-begin-requires c κs = omega (arith, slice-aggregate-open-and-begin c)
+open-book-requires : tie.Need-open-book-requires
+open-book-requires c κs = omega (arith, slice-aggregate-open-book c)
 
-enum-known-setup : tie.Need-enum-known-setup
-enum-known-setup c = c .match .keys1
+enum-known-counts : tie.Need-enum-known-counts
+enum-known-counts c = search needs
 
-slice-aggregate-decode-with : tie.Need-slice-aggregate-decode-with
-slice-aggregate-decode-with c = sym (c .before .before .before .before .before .open-and-begin .kept .1 .1 .0 ∙ length-replicate {A = ℕ} _ 0)
+slice-aggregate-decode-open : tie.Need-slice-aggregate-decode-open
+slice-aggregate-decode-open c = sym (c .before .before .before .before .before .open-book .kept .1 .0 ∙ length-replicate {A = ℕ} _ 0)
 
-slice-aggregate-decode-with-2 : tie.Need-slice-aggregate-decode-with-2
-slice-aggregate-decode-with-2 c = sym (length-replicate {A = ℕ} _ 0)
+slice-aggregate-decode-open-2 : tie.Need-slice-aggregate-decode-open-2
+slice-aggregate-decode-open-2 c = sym (length-replicate {A = ℕ} _ 0)
 
-decode-with-requires : tie.Need-decode-with-requires
-decode-with-requires c κs = let s = rw (c .before .before .before .before .before .setup .given .1) at (c .before .before .before .before .before .before .before .before .open-and-begin .ensures) in (s, omega arith)
+decode-open-requires : tie.Need-decode-open-requires
+decode-open-requires c κs = (rw (c .before .before .before .before .before .counts .given .1) at (c .before .before .before .before .before .before .before .before .open-book .ensures), (omega arith, tt))
 
 enum-known-refusal : tie.Need-enum-known-refusal
-enum-known-refusal c = c .match .keys2
+enum-known-refusal c = search needs
 
 refused-requires : tie.Need-refused-requires
 refused-requires c κs = search needs
@@ -46,21 +46,21 @@ same-length-2 : tie.Need-same-length-2
 same-length-2 c = search needs
 
 returns : tie.Need-returns
-returns c = rw (toZ-ofZ (c .before .before .before .before .before .before .before .before .before .before .before .before .before .before .before .before .before .fits .width)) at (c .before .before .before .before .decode-with .ensures)
+returns c = rw (toZ-ofZ (c .before .before .before .before .before .before .before .before .before .before .before .before .before .before .before .before .before .fits .width)) at (c .before .before .before .before .decode-open .ensures)
 
 returns-2 : tie.Need-returns-2
-returns-2 c = refused-plain _ _ _ _ _ _ _ (rw (c .before .before .refusal .given .1) at (c .before .before .before .before .before .open-and-begin .ensures)) (c .refused .ensures)
+returns-2 c = refused-book _ _ _ _ _ _ _ (rw (c .before .before .refusal .given .1) at (c .before .before .before .before .before .open-book .ensures)) (c .refused .ensures)
 
 pub decode-plain-spec : {M : Type 1} → statement M
 decode-plain-spec =
     tie.close
     (tie.spec
-    slice-aggregate-open-and-begin
-    open-and-begin-requires
-    enum-known-setup
-    slice-aggregate-decode-with
-    slice-aggregate-decode-with-2
-    decode-with-requires
+    slice-aggregate-open-book
+    open-book-requires
+    enum-known-counts
+    slice-aggregate-decode-open
+    slice-aggregate-decode-open-2
+    decode-open-requires
     enum-known-refusal
     refused-requires
     same-length
