@@ -24,3 +24,4 @@ pub mod Rooms
 pub mod Numbered
 pub mod Revised
 pub mod Parts
+pub mod Lengths

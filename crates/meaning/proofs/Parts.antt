@@ -142,7 +142,7 @@ directions-count before directions [] = refl
 directions-count before directions (end ∷ ends) = ap suc (directions-count end directions ends)
 
 -- one end later
-begins : (before end : ℕ) (ends : List ℕ) (k : ℕ) → endBefore end ends k ≡ endBefore before (end ∷ ends) (suc k)
+pub begins : (before end : ℕ) (ends : List ℕ) (k : ℕ) → endBefore end ends k ≡ endBefore before (end ∷ ends) (suc k)
 begins before end ends zero = refl
 begins before end ends (suc k) = refl
 
