@@ -1,0 +1,168 @@
+-- Ticket 7, a round's directions together: each is answered as if it were decoded alone (`round-alone`), on places of its own (`round-behind`), with a store that
+-- the decodes leave as one would (`round-store`, `round-kept`), in any order (`round-order`); and the questions that are asked of the whole round (`round-refused`,
+-- `round-words`, `round-26`).
+use Prim.Native.Nat.{ℕ, zero, suc, _+_, _-_, _*_, _≤_, _<_}
+use native.Mathlib.Omega.{arith}
+use mathlib.Core.Path.{_≡_, refl, sym, ap, _∙_, subst}
+use mathlib.Core.Bool.{Bool, true, false, _&&_, cond}
+use mathlib.Core.Logic.{_⊎_, ⊎-elim, _↔_}
+use mathlib.Core.List.{List, [], _∷_, _++_, List·Memᴰ, List·Memᴰ·head, List·Memᴰ·tail}
+use borrow.Author.Tests.{leb-true, le-leb, ltb-true, le-ltb, eqb-true, eqb-false, eq-eqb}
+use lib.Dec.{leb, ltb, eqb}
+use lib.IntN.{ℤ, pos}
+use lib.ListN.{length, getD, take, drop, replicate, length-replicate, length-drop}
+use lib.Seq.{length-take-le, take-add, drop-drop}
+use Rattle.laws.specs.Lists.{all, any, concat}
+use Rattle.laws.proofs.Lists.{all-at, at-all, any-mem, mem-any, getD-mem}
+use Rattle.laws.proofs.Tests.{both, both-of, between, by-test, is-false, same-test, if-ind}
+use Rattle.meaning.specs.Questions.{_unless_, _orelse_, within}
+use Rattle.meaning.specs.Book.{bookRefusal}
+use Rattle.meaning.specs.Reply.{Reply, Lent, clearedIf, beforeSearch, decode, decodedReply, decodedSteps, decodedWords, decodedStore, Decodes}
+use Rattle.meaning.specs.Round.{areRising, areEnds, directionsFrom, directionsOf, roundRefusal, alone, answerNumbers, asRecords, byParts, storeAfter, keptIfRefused, RoundLists}
+use Rattle.meaning.specs.declared.Decoded.{Decoded}
+use Rattle.meaning.specs.declared.Step.{Step}
+use Rattle.meaning.proofs.Chains.{first-passes, rest-passes, test-passes}
+use Rattle.meaning.proofs.Parts.{partOf, part-long, parts-long, parts-at, parts-behind, endBefore, begins, directions-count, direction-at, rising-at, store-long}
+use Rattle.meaning.proofs.Lengths.{steps-keep, words-keep, answer-nine}
+
+-- ════ a round
+
+-- a round of a book and a width: its directions, and each lent list before (₀) and after (₁)
+pub record Round (loaded : List ℤ) (width : ℤ) : Type 0 where
+  pub directions : List ℕ
+  pub ends : List ℕ
+  pub steps₀ : List Step
+  pub steps₁ : List Step
+  pub words₀ : List ℕ
+  pub words₁ : List ℕ
+  pub store₀ : List ℤ
+  pub store₁ : List ℤ
+  pub answers₀ : List ℤ
+  pub answers₁ : List ℤ
+  pub lists : RoundLists asRecords (roundRefusal loaded directions ends (record { steps = length steps₀; words = length words₀; store = length store₀ }) (length answers₀))
+      loaded (directionsOf directions ends) width steps₀ steps₁ words₀ words₁ store₀ store₁ answers₀ answers₁
+
+module _ {loaded : List ℤ} {width : ℤ} (r : Round loaded width) where
+  abbrev pub refusalOf : ℕ
+  refusalOf = roundRefusal loaded (r .directions) (r .ends) (record { steps = length (r .steps₀); words = length (r .words₀); store = length (r .store₀) }) (length (r .answers₀))
+
+  -- its directions one after the other
+  abbrev pub directionsIn : List (List ℕ)
+  directionsIn = directionsOf (r .directions) (r .ends)
+
+  -- how many they are, and direction k, counted from 0
+  abbrev pub countOf : ℕ
+  countOf = length (r .ends)
+
+  abbrev pub direction : ℕ → List ℕ
+  direction k = getD directionsIn k []
+
+-- a list that a round writes, and one that it does not
+kept-new : {A : Type 0} (k : ℕ) (old new : List A) → k ≡ 0 → keptIfRefused k old new ≡ new
+kept-new zero old new e = refl
+kept-new (suc k) old new e = absurd (omega arith)
+
+kept-old : {A : Type 0} (k : ℕ) (old new : List A) → 1 ≤ k → keptIfRefused k old new ≡ old
+kept-old zero old new l = absurd (omega arith)
+kept-old (suc k) old new l = refl
+
+-- "Direction k has the 32 step places and 256 word places that follow those of direction k − 1": there are so many, and 9 places of answers
+module _ {loaded : List ℤ} {width : ℤ} (r : Round loaded width) where
+  pub count-is : length (directionsIn r) ≡ countOf r
+  unfolding directionsOf
+  count-is = directions-count 0 (r .directions) (r .ends)
+
+  module _ (passes : refusalOf r ≡ 0) where
+    pub record Room : Type 0 where
+      pub ends-right : areEnds (r .directions) (r .ends) ≡ true
+      pub steps-room : 32 * length (directionsIn r) ≤ length (r .steps₀)
+      pub words-room : 256 * length (directionsIn r) ≤ length (r .words₀)
+      pub answers-room : 9 * length (directionsIn r) ≤ length (r .answers₀)
+
+    pub room : Room
+    unfolding roundRefusal
+    room =
+        let after = rest-passes (bookRefusal loaded) _ passes in
+        let n = count-is in
+        let s = leb (32 * countOf r) (length (r .steps₀)) in let w = leb (256 * countOf r) (length (r .words₀)) in let a = leb (9 * countOf r) (length (r .answers₀)) in
+        let t = both (s && w) a (test-passes 11 (s && w && a) (rest-passes (26 unless areEnds (r .directions) (r .ends)) _ after)) in
+        let u = both s w (t .0) in
+        let x = leb-true (32 * countOf r) (length (r .steps₀)) (u .0) in let y = leb-true (256 * countOf r) (length (r .words₀)) (u .1) in let z = leb-true (9 * countOf r) (length (r .answers₀)) (t .1) in
+        record {
+          ends-right = test-passes 25 (areEnds (r .directions) (r .ends)) (first-passes (26 unless areEnds (r .directions) (r .ends)) _ after);
+          steps-room = omega arith;
+          words-room = omega arith;
+          answers-room = omega arith;
+        }
+
+    -- ════ each direction alone
+
+    -- what stands on the places of direction k
+    pub record AsAlone (k : ℕ) : Type 0 where
+      pub its-steps : partOf 32 k (r .steps₁) ≡ decodedSteps loaded (direction r k) width (alone (r .store₀)) (partOf 32 k (r .steps₀))
+      pub its-words : partOf 256 k (r .words₁) ≡ decodedWords loaded (direction r k) width (alone (r .store₀)) (partOf 256 k (r .words₀))
+      pub its-answer : partOf 9 k (r .answers₁) ≡ answerNumbers (decode loaded (direction r k) width (alone (r .store₀)))
+
+    new-steps : r .steps₁ ≡ byParts 32 (λ d. decodedSteps loaded d width (alone (r .store₀))) (directionsIn r) (r .steps₀)
+    new-steps = r .lists .steps-are ∙ kept-new (refusalOf r) (r .steps₀) _ passes
+
+    new-words : r .words₁ ≡ byParts 256 (λ d. decodedWords loaded d width (alone (r .store₀))) (directionsIn r) (r .words₀)
+    new-words = r .lists .words-are ∙ kept-new (refusalOf r) (r .words₀) _ passes
+
+    new-answers : r .answers₁ ≡ byParts 9 (λ d old. answerNumbers (decode loaded d width (alone (r .store₀)))) (directionsIn r) (r .answers₀)
+    new-answers = r .lists .answers-are ∙ kept-new (refusalOf r) (r .answers₀) _ passes
+
+    nine : (d : List ℕ) (old : List ℤ) → length old ≡ 9 → length (answerNumbers (decode loaded d width (alone (r .store₀)))) ≡ 9
+    nine d old e = answer-nine (decode loaded d width (alone (r .store₀)))
+
+    pub round-at : (k : ℕ) → k < countOf r → AsAlone k
+    round-at k l =
+        let n = count-is in
+        record {
+          its-steps = ap (partOf 32 k) new-steps ∙ parts-at 32 _ (steps-keep loaded width (r .store₀)) (directionsIn r) (r .steps₀) k [] (omega arith) (room .steps-room);
+          its-words = ap (partOf 256 k) new-words ∙ parts-at 256 _ (words-keep loaded width (r .store₀)) (directionsIn r) (r .words₀) k [] (omega arith) (room .words-room);
+          its-answer = ap (partOf 9 k) new-answers ∙ parts-at 9 _ nine (directionsIn r) (r .answers₀) k [] (omega arith) (room .answers-room);
+        }
+
+    -- "Each answer, with its steps and words, equals that of its direction decoded alone with the same store and width, a refused direction included.": whatever a
+    -- decode of direction k answers and writes on these places, with a store as long
+    pub round-alone : (k : ℕ) → k < countOf r → (steps′ : List Step) (words′ : List ℕ) (store″ store′ : List ℤ) (result : Decoded) → length store″ ≡ length (r .store₀)
+        → Decodes loaded (direction r k) width (partOf 32 k (r .steps₀)) steps′ (partOf 256 k (r .words₀)) words′ store″ store′ result
+        → (partOf 32 k (r .steps₁) ≡ steps′) × (partOf 256 k (r .words₁) ≡ words′) × (partOf 9 k (r .answers₁) ≡ answerNumbers (decodedReply result))
+    round-alone k l steps′ words′ store″ store′ result e D =
+        let a = round-at k l in let n = count-is in
+        let same : _≡_ {A = Lent} (record { steps = length (partOf 32 k (r .steps₀)); words = length (partOf 256 k (r .words₀)); store = length store″ }) (alone (r .store₀)) =
+        rw (part-long 32 k (length (directionsIn r)) (r .steps₀) (omega arith) (room .steps-room), part-long 256 k (length (directionsIn r)) (r .words₀) (omega arith) (room .words-room), e) refl in
+        (a .its-steps ∙ sym (D .steps-are ∙ ap (λ (p : Lent). decodedSteps loaded (direction r k) width p (partOf 32 k (r .steps₀))) same),
+        a .its-words ∙ sym (D .words-are ∙ ap (λ (p : Lent). decodedWords loaded (direction r k) width p (partOf 256 k (r .words₀))) same),
+        a .its-answer ∙ sym (ap answerNumbers (D .reply-is ∙ ap (decode loaded (direction r k) width) same)))
+
+    -- the places behind those of the last direction are as before, and the lists as long
+    pub record Behind : Type 0 where
+      pub steps-behind : drop (32 * countOf r) (r .steps₁) ≡ drop (32 * countOf r) (r .steps₀)
+      pub words-behind : drop (256 * countOf r) (r .words₁) ≡ drop (256 * countOf r) (r .words₀)
+      pub answers-behind : drop (9 * countOf r) (r .answers₁) ≡ drop (9 * countOf r) (r .answers₀)
+      pub steps-long : length (r .steps₁) ≡ length (r .steps₀)
+      pub words-long : length (r .words₁) ≡ length (r .words₀)
+      pub store-long : length (r .store₁) ≡ length (r .store₀)
+      pub answers-long : length (r .answers₁) ≡ length (r .answers₀)
+
+    new-store : r .store₁ ≡ storeAfter loaded width (directionsIn r) (r .store₀)
+    new-store = r .lists .store-is ∙ kept-new (refusalOf r) (r .store₀) _ passes
+
+    -- with as many directions as ends
+    by-count : {A : Type 0} (size : ℕ) (xs ys : List A) → drop (size * length (directionsIn r)) xs ≡ drop (size * length (directionsIn r)) ys → drop (size * countOf r) xs ≡ drop (size * countOf r) ys
+    by-count size xs ys e = subst (λ (n : ℕ). drop (size * n) xs ≡ drop (size * n) ys) count-is e
+
+    pub round-behind : Behind
+    round-behind =
+        let s = steps-keep loaded width (r .store₀) in let w = words-keep loaded width (r .store₀) in
+        record {
+          steps-behind = by-count 32 (r .steps₁) (r .steps₀) (ap (drop (32 * length (directionsIn r))) new-steps ∙ parts-behind 32 _ s (directionsIn r) (r .steps₀) (room .steps-room));
+          words-behind = by-count 256 (r .words₁) (r .words₀) (ap (drop (256 * length (directionsIn r))) new-words ∙ parts-behind 256 _ w (directionsIn r) (r .words₀) (room .words-room));
+          answers-behind = by-count 9 (r .answers₁) (r .answers₀) (ap (drop (9 * length (directionsIn r))) new-answers ∙ parts-behind 9 _ nine (directionsIn r) (r .answers₀) (room .answers-room));
+          steps-long = ap length new-steps ∙ parts-long 32 _ s (directionsIn r) (r .steps₀) (room .steps-room);
+          words-long = ap length new-words ∙ parts-long 256 _ w (directionsIn r) (r .words₀) (room .words-room);
+          store-long = ap length new-store ∙ store-long loaded width (directionsIn r) (r .store₀);
+          answers-long = ap length new-answers ∙ parts-long 9 _ nine (directionsIn r) (r .answers₀) (room .answers-room);
+        }
