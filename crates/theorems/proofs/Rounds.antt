@@ -7,7 +7,7 @@ use mathlib.Core.Path.{_≡_, refl, sym, ap, _∙_, subst}
 use mathlib.Core.Bool.{Bool, true, false, _&&_, cond}
 use mathlib.Core.Logic.{_⊎_, ⊎-elim, _↔_}
 use mathlib.Core.List.{List, [], _∷_, _++_, List·Memᴰ, List·Memᴰ·head, List·Memᴰ·tail}
-use borrow.Author.Tests.{leb-true, le-leb, ltb-true, le-ltb, eqb-true, eqb-false, eq-eqb}
+use borrow.Author.Tests.{leb-true, le-leb, ltb-true, le-ltb, eqb-true, eqb-false, eq-eqb, ne-eqb}
 use lib.Dec.{leb, ltb, eqb}
 use lib.IntN.{ℤ, pos}
 use lib.ListN.{length, getD, take, drop, replicate, length-replicate, length-drop}
@@ -66,6 +66,43 @@ kept-old : {A : Type 0} (k : ℕ) (old new : List A) → 1 ≤ k → keptIfRefus
 kept-old zero old new l = absurd (omega arith)
 kept-old (suc k) old new l = refl
 
+-- ════ the store
+
+-- a direction that begins its search: its questions up to 12 pass
+abbrev pub isSearched : List ℤ → ℤ → List ℤ → List ℕ → Bool
+isSearched loaded width store d = eqb (beforeSearch loaded d width (alone store)) 0
+
+module _ (loaded : List ℤ) (width : ℤ) where
+  -- one decode: it clears the store, or keeps it
+  decoded-is : (d : List ℕ) (store : List ℤ) → decodedStore loaded d width (alone store) store ≡ cond (isSearched loaded width store d) (replicate (length store) (pos 0)) store
+  unfolding decodedStore
+  decoded-is d store = by (beforeSearch loaded d width (alone store))
+    where
+      by : (k : ℕ) → clearedIf k store ≡ cond (eqb k 0) (replicate (length store) (pos 0)) store
+      by zero = refl
+      by (suc k) = rw (ne-eqb (suc k) 0 (omega arith))
+
+  -- a store that is all zero stays so
+  zero-stays : (n : ℕ) (ds : List (List ℕ)) → storeAfter loaded width ds (replicate n (pos 0)) ≡ replicate n (pos 0)
+  zero-stays n [] = refl
+  zero-stays n (d ∷ ds) =
+      let zeros = replicate n (pos 0) in
+      let e = either (isSearched loaded width zeros d) _ zeros (ap (λ (m : ℕ). replicate m (pos 0)) (length-replicate n (pos 0))) in
+      ap (storeAfter loaded width ds) (decoded-is d zeros ∙ e) ∙ zero-stays n ds
+    where
+      either : (t : Bool) (xs ys : List ℤ) → xs ≡ ys → cond t xs ys ≡ ys
+      either true xs ys e = e
+      either false xs ys e = refl
+
+  pub store-is : (ds : List (List ℕ)) (store : List ℤ) → storeAfter loaded width ds store ≡ cond (any (isSearched loaded width store) ds) (replicate (length store) (pos 0)) store
+  store-is [] store = refl
+  store-is (d ∷ ds) store =
+      by-test (isSearched loaded width store d)
+      (λ t. ap (storeAfter loaded width ds) (decoded-is d store ∙ rw t refl) ∙ zero-stays (length store) ds ∙ rw t refl)
+      (λ f. ap (storeAfter loaded width ds) (decoded-is d store ∙ rw f refl) ∙ store-is ds store ∙ rw f refl)
+
+-- ════ the places of each direction
+
 -- "Direction k has the 32 step places and 256 word places that follow those of direction k − 1": there are so many, and 9 places of answers
 module _ {loaded : List ℤ} {width : ℤ} (r : Round loaded width) where
   pub count-is : length (directionsIn r) ≡ countOf r
@@ -112,6 +149,9 @@ module _ {loaded : List ℤ} {width : ℤ} (r : Round loaded width) where
     new-answers : r .answers₁ ≡ byParts 9 (λ d old. answerNumbers (decode loaded d width (alone (r .store₀)))) (directionsIn r) (r .answers₀)
     new-answers = r .lists .answers-are ∙ kept-new (refusalOf r) (r .answers₀) _ passes
 
+    new-store : r .store₁ ≡ storeAfter loaded width (directionsIn r) (r .store₀)
+    new-store = r .lists .store-is ∙ kept-new (refusalOf r) (r .store₀) _ passes
+
     nine : (d : List ℕ) (old : List ℤ) → length old ≡ 9 → length (answerNumbers (decode loaded d width (alone (r .store₀)))) ≡ 9
     nine d old e = answer-nine (decode loaded d width (alone (r .store₀)))
 
@@ -147,9 +187,6 @@ module _ {loaded : List ℤ} {width : ℤ} (r : Round loaded width) where
       pub store-long : length (r .store₁) ≡ length (r .store₀)
       pub answers-long : length (r .answers₁) ≡ length (r .answers₀)
 
-    new-store : r .store₁ ≡ storeAfter loaded width (directionsIn r) (r .store₀)
-    new-store = r .lists .store-is ∙ kept-new (refusalOf r) (r .store₀) _ passes
-
     -- with as many directions as ends
     by-count : {A : Type 0} (size : ℕ) (xs ys : List A) → drop (size * length (directionsIn r)) xs ≡ drop (size * length (directionsIn r)) ys → drop (size * countOf r) xs ≡ drop (size * countOf r) ys
     by-count size xs ys e = subst (λ (n : ℕ). drop (size * n) xs ≡ drop (size * n) ys) count-is e
@@ -166,3 +203,59 @@ module _ {loaded : List ℤ} {width : ℤ} (r : Round loaded width) where
           store-long = ap length new-store ∙ store-long loaded width (directionsIn r) (r .store₀);
           answers-long = ap length new-answers ∙ parts-long 9 _ nine (directionsIn r) (r .answers₀) (room .answers-room);
         }
+
+    -- ════ the store
+
+    -- "the same store": afterwards it is all zero if some direction began its search ..
+    store-by : r .store₁ ≡ cond (any (isSearched loaded width (r .store₀)) (directionsIn r)) (replicate (length (r .store₀)) (pos 0)) (r .store₀)
+    store-by = new-store ∙ store-is loaded width (directionsIn r) (r .store₀)
+
+    pub round-store : (d : List ℕ) → List·Memᴰ d (directionsIn r) → beforeSearch loaded d width (alone (r .store₀)) ≡ 0 → r .store₁ ≡ replicate (length (r .store₀)) (pos 0)
+    round-store d m e = store-by ∙ rw (mem-any (isSearched loaded width (r .store₀)) (directionsIn r) d m (eq-eqb _ 0 e)) refl
+
+    -- .. and as before if none did
+    pub round-kept : ((d : List ℕ) → List·Memᴰ d (directionsIn r) → 1 ≤ beforeSearch loaded d width (alone (r .store₀))) → r .store₁ ≡ r .store₀
+    round-kept none =
+        let f : any (isSearched loaded width (r .store₀)) (directionsIn r) ≡ false = is-false (λ t.
+        let a = any-mem (isSearched loaded width (r .store₀)) (directionsIn r) t in
+        let z = eqb-true (beforeSearch loaded (a .0) width (alone (r .store₀))) 0 (a .2) in let n = none (a .0) (a .1) in absurd (omega arith)) in
+        store-by ∙ rw f refl
+
+  -- ════ a refused round
+
+  -- a round that is refused changes no list
+  pub round-refused : 1 ≤ refusalOf r → (r .steps₁ ≡ r .steps₀) × (r .words₁ ≡ r .words₀) × (r .store₁ ≡ r .store₀) × (r .answers₁ ≡ r .answers₀)
+  round-refused l =
+      (r .lists .steps-are ∙ kept-old (refusalOf r) (r .steps₀) _ l,
+      r .lists .words-are ∙ kept-old (refusalOf r) (r .words₀) _ l,
+      r .lists .store-is ∙ kept-old (refusalOf r) (r .store₀) _ l,
+      r .lists .answers-are ∙ kept-old (refusalOf r) (r .answers₀) _ l)
+
+-- ════ the order of the directions
+
+-- two rounds of the same book and width, with stores of the same length. "The order of the directions shows in nothing but the places"
+module _ {loaded : List ℤ} {width : ℤ} (r s : Round loaded width) (passes : refusalOf r ≡ 0) (passes′ : refusalOf s ≡ 0) (same-store : length (r .store₀) ≡ length (s .store₀)) where
+  same-lent : alone (r .store₀) ≡ alone (s .store₀)
+  same-lent = rw same-store refl
+
+  -- where direction i of the one is direction j of the other, its answer is the same, and what is written over the same steps and words
+  pub round-order : (i j : ℕ) → i < countOf r → j < countOf s → direction r i ≡ direction s j
+      → (partOf 9 i (r .answers₁) ≡ partOf 9 j (s .answers₁))
+      × (partOf 32 i (r .steps₀) ≡ partOf 32 j (s .steps₀) → partOf 32 i (r .steps₁) ≡ partOf 32 j (s .steps₁))
+      × (partOf 256 i (r .words₀) ≡ partOf 256 j (s .words₀) → partOf 256 i (r .words₁) ≡ partOf 256 j (s .words₁))
+  round-order i j l m e =
+      let a = round-at r passes i l in let b = round-at s passes′ j m in
+      (a .its-answer ∙ rw (e, same-lent) refl ∙ sym (b .its-answer),
+      λ o. a .its-steps ∙ rw (e, same-lent, o) refl ∙ sym (b .its-steps),
+      λ o. a .its-words ∙ rw (e, same-lent, o) refl ∙ sym (b .its-words))
+
+  -- and the store is the same where the directions are, in whatever order
+  pub round-order-store : r .store₀ ≡ s .store₀ → ((d : List ℕ) → List·Memᴰ d (directionsIn r) → List·Memᴰ d (directionsIn s)) → ((d : List ℕ) → List·Memᴰ d (directionsIn s) → List·Memᴰ d (directionsIn r))
+      → r .store₁ ≡ s .store₁
+  round-order-store e to from =
+      let test = isSearched loaded width (r .store₀) in
+      let t : any test (directionsIn r) ≡ any test (directionsIn s) = same-test
+      (λ h. let a = any-mem test (directionsIn r) h in mem-any test (directionsIn s) (a .0) (to (a .0) (a .1)) (a .2))
+      (λ h. let a = any-mem test (directionsIn s) h in mem-any test (directionsIn r) (a .0) (from (a .0) (a .1)) (a .2)) in
+      store-by r passes ∙ ap (λ (x : Bool). cond x (replicate (length (r .store₀)) (pos 0)) (r .store₀)) t
+      ∙ ap (λ (x : List ℤ). cond (any (isSearched loaded width x) (directionsIn s)) (replicate (length x) (pos 0)) x) e ∙ sym (store-by s passes′)
