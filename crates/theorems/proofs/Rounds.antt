@@ -7,7 +7,7 @@ use mathlib.Core.Path.{_≡_, refl, sym, ap, _∙_, subst}
 use mathlib.Core.Bool.{Bool, true, false, _&&_, cond}
 use mathlib.Core.Logic.{_⊎_, ⊎-elim, _↔_}
 use mathlib.Core.List.{List, [], _∷_, _++_, List·Memᴰ, List·Memᴰ·head, List·Memᴰ·tail}
-use borrow.Author.Tests.{leb-true, le-leb, ltb-true, le-ltb, eqb-true, eqb-false, eq-eqb, ne-eqb}
+use borrow.Author.Tests.{leb-true, le-leb, ltb-true, lt-ltb, eqb-true, eq-eqb, ne-eqb}
 use lib.Dec.{leb, ltb, eqb}
 use lib.IntN.{ℤ, pos}
 use lib.ListN.{length, getD, take, drop, replicate, length-replicate, length-drop}
@@ -259,3 +259,109 @@ module _ {loaded : List ℤ} {width : ℤ} (r s : Round loaded width) (passes : 
       (λ h. let a = any-mem test (directionsIn s) h in mem-any test (directionsIn r) (a .0) (from (a .0) (a .1)) (a .2)) in
       store-by r passes ∙ ap (λ (x : Bool). cond x (replicate (length (r .store₀)) (pos 0)) (r .store₀)) t
       ∙ ap (λ (x : List ℤ). cond (any (isSearched loaded width x) (directionsIn s)) (replicate (length x) (pos 0)) x) e ∙ sym (store-by s passes′)
+
+-- ════ 26
+
+at-rising : (before : ℕ) (ends : List ℕ) → ((k : ℕ) → k < length ends → endBefore before ends k < getD ends k 0) → areRising before ends ≡ true
+at-rising before [] h = refl
+at-rising before (end ∷ ends) h =
+    both-of (lt-ltb before end (h 0 (omega arith)))
+    (at-rising end ends (λ k l. subst (λ (n : ℕ). n < getD ends k 0) (sym (begins before end ends k)) (h (suc k) (omega arith))))
+
+module _ (directions ends : List ℕ) where
+  -- "there are 1 to 64", each end is above "the one before (0 for the first)", and none "lies past the list"
+  pub record Ends : Type 0 where
+    pub one : 1 ≤ length ends
+    pub few : length ends ≤ 64
+    pub rising : (k : ℕ) → k < length ends → endBefore 0 ends k < getD ends k 0
+    pub inside : (k : ℕ) → k < length ends → getD ends k 0 ≤ length directions
+
+  -- 26 passes exactly then ..
+  pub ends-right : areEnds directions ends ≡ true → Ends
+  unfolding areEnds
+  ends-right t =
+      let past = all (λ end. leb end (length directions)) ends in
+      let a = both (within 1 64 (length ends) && areRising 0 ends) past t in
+      let b = both (within 1 64 (length ends)) (areRising 0 ends) (a .0) in
+      let c = between 1 64 (length ends) (b .0) in
+      record {
+        one = c .0;
+        few = c .1;
+        rising = λ k l. rising-at 0 ends k (b .1) l;
+        inside = λ k l. leb-true (getD ends k 0) (length directions) (all-at (λ end. leb end (length directions)) ends 0 (a .1) k l);
+      }
+
+  pub right-ends : Ends → areEnds directions ends ≡ true
+  unfolding areEnds
+  right-ends e =
+      both-of (both-of (both-of (le-leb 1 (length ends) (e .one)) (le-leb (length ends) 64 (e .few))) (at-rising 0 ends (e .rising)))
+      (at-all (λ end. leb end (length directions)) ends 0 (λ k l. le-leb (getD ends k 0) (length directions) (e .inside k l)))
+
+  -- .. so it refuses "when there are not 1 to 64, an end is not above the one before (0 for the first), or an end lies past the list"
+  pub ends-none : length ends ≡ 0 → areEnds directions ends ≡ false
+  ends-none z = is-false (λ t. let e = ends-right t .one in absurd (omega arith))
+
+  pub ends-too-many : 64 < length ends → areEnds directions ends ≡ false
+  ends-too-many l = is-false (λ t. let e = ends-right t .few in absurd (omega arith))
+
+  pub ends-not-rising : (k : ℕ) → k < length ends → getD ends k 0 ≤ endBefore 0 ends k → areEnds directions ends ≡ false
+  ends-not-rising k l h = is-false (λ t. let e = ends-right t .rising k l in absurd (omega arith))
+
+  pub ends-past : (k : ℕ) → k < length ends → length directions < getD ends k 0 → areEnds directions ends ≡ false
+  ends-past k l h = is-false (λ t. let e = ends-right t .inside k l in absurd (omega arith))
+
+  -- "after the book checks and before that 12": whatever the lists' lengths
+  pub round-26 : (loaded : List ℤ) (lent : Lent) (answers : ℕ) → bookRefusal loaded ≡ 0 → areEnds directions ends ≡ false → roundRefusal loaded directions ends lent answers ≡ 26
+  unfolding roundRefusal
+  round-26 loaded lent answers b e = rw (b, e) refl
+
+  -- and the book's own refusal stands before it
+  pub round-book : (loaded : List ℤ) (lent : Lent) (answers k : ℕ) → bookRefusal loaded ≡ suc k → roundRefusal loaded directions ends lent answers ≡ suc k
+  unfolding roundRefusal
+  round-book loaded lent answers k b = rw b refl
+
+  -- ════ the directions of a round that 26 passes
+
+  -- no direction is empty, and each lies in the list
+  pub round-words : areEnds directions ends ≡ true → (k : ℕ) → k < length ends → 1 ≤ length (getD (directionsOf directions ends) k [])
+  unfolding directionsOf
+  round-words t k l =
+      let e = ends-right t in let a = e .rising k l in let b = e .inside k l in
+      let from = endBefore 0 ends k in let d = length-drop from directions in
+      let n = length-take-le (getD ends k 0 - from) (drop from directions) (omega arith) in
+      omega (arith, a, n, ap length (direction-at 0 directions ends k l))
+
+-- two parts side by side
+two-parts : {A : Type 0} (a b c : ℕ) (xs : List A) → a ≤ b → b ≤ c → take (b - a) (drop a xs) ++ take (c - b) (drop b xs) ≡ take (c - a) (drop a xs)
+two-parts a b c xs l m =
+    let e : a + (b - a) ≡ b = omega arith in
+    let f : (b - a) + (c - b) ≡ c - a = omega arith in
+    ap (λ (n : ℕ). take (b - a) (drop a xs) ++ take (c - b) (drop n xs)) (sym e)
+    ∙ ap (λ ys. take (b - a) (drop a xs) ++ take (c - b) ys) (sym (drop-drop (b - a) a xs))
+    ∙ sym (take-add (b - a) (c - b) (drop a xs)) ∙ ap (λ (n : ℕ). take n (drop a xs)) f
+
+-- the last end is not before the first
+rising-last : (before : ℕ) (ends : List ℕ) → areRising before ends ≡ true → before ≤ endBefore before ends (length ends)
+rising-last before [] r = omega arith
+rising-last before (end ∷ ends) r =
+    let b = both (ltb before end) (areRising end ends) r in
+    omega (arith, ltb-true before end (b .0), rising-last end ends (b .1), begins before end ends (length ends))
+
+together : (before : ℕ) (directions ends : List ℕ) → areRising before ends ≡ true
+    → concat (directionsFrom before directions ends) ≡ take (endBefore before ends (length ends) - before) (drop before directions)
+together before directions [] r = let z : before - before ≡ 0 = omega arith in rw z refl
+together before directions (end ∷ ends) r =
+    let b = both (ltb before end) (areRising end ends) r in
+    let l = ltb-true before end (b .0) in
+    ap (λ (ws : List ℕ). take (end - before) (drop before directions) ++ ws) (together end directions ends (b .1))
+    ∙ two-parts before end (endBefore end ends (length ends)) directions (omega arith) (rising-last end ends (b .1))
+    ∙ ap (λ (n : ℕ). take (n - before) (drop before directions)) (begins before end ends (length ends))
+
+-- "one list with their ends": the directions, put one after the other, are the list up to the last end
+pub round-together : (directions ends : List ℕ) → areEnds directions ends ≡ true → concat (directionsOf directions ends) ≡ take (endBefore 0 ends (length ends)) directions
+unfolding areEnds directionsOf
+round-together directions ends t =
+    let last = endBefore 0 ends (length ends) in
+    let z : last - 0 ≡ last = omega arith in
+    let a = both (within 1 64 (length ends) && areRising 0 ends) (all (λ end. leb end (length directions)) ends) t in
+    together 0 directions ends (both (within 1 64 (length ends)) (areRising 0 ends) (a .0) .1) ∙ ap (λ (n : ℕ). take n directions) z
