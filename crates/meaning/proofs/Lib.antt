@@ -23,3 +23,5 @@ pub mod Reach
 pub mod Rooms
 pub mod Numbered
 pub mod Revised
+pub mod Parts
+pub mod Lengths

@@ -8,3 +8,4 @@ pub mod Printed
 pub mod Revising
 pub mod Edits
 pub mod EditRows
+pub mod Rounds
