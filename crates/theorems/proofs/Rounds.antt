@@ -206,9 +206,12 @@ module _ {loaded : List ℤ} {width : ℤ} (r : Round loaded width) where
 
   -- a round that is refused changes no list
   pub round-refused : 1 ≤ refusalOf → (r .steps₁ ≡ r .steps₀) × (r .words₁ ≡ r .words₀) × (r .store₁ ≡ r .store₀) × (r .answers₁ ≡ r .answers₀)
-  round-refused l =
-      (r .lists .steps-are ∙ kept-old refusalOf (r .steps₀) _ l, r .lists .words-are ∙ kept-old refusalOf (r .words₀) _ l,
-      r .lists .store-is ∙ kept-old refusalOf (r .store₀) _ l, r .lists .answers-are ∙ kept-old refusalOf (r .answers₀) _ l)
+  round-refused l = (
+    r .lists .steps-are ∙ kept-old refusalOf (r .steps₀) _ l,
+    r .lists .words-are ∙ kept-old refusalOf (r .words₀) _ l,
+    r .lists .store-is ∙ kept-old refusalOf (r .store₀) _ l,
+    r .lists .answers-are ∙ kept-old refusalOf (r .answers₀) _ l,
+  )
 
   -- what stands on the places of direction k: "the 32 step places and 256 word places that follow those of direction k − 1", and 9 numbers
   pub record AsAlone (k : ℕ) : Type 0 where
@@ -280,10 +283,11 @@ module _ {loaded : List ℤ} {width : ℤ} (r : Round loaded width) (passes : re
   round-alone k l steps′ words′ store″ store′ result e D =
       let a = round-at k l in let n = count-is r in
       let same : _≡_ {A = Lent} (record { steps = length (partOf 32 k (r .steps₀)); words = length (partOf 256 k (r .words₀)); store = length store″ }) (alone store) =
-      rw (part-long 32 k (length ds) (r .steps₀) (omega arith) (room .0), part-long 256 k (length ds) (r .words₀) (omega arith) (room .1), e) refl in
-      (a .its-steps ∙ sym (D .steps-are ∙ ap (λ (p : Lent). decodedSteps loaded (direction r k) width p (partOf 32 k (r .steps₀))) same),
-      a .its-words ∙ sym (D .words-are ∙ ap (λ (p : Lent). decodedWords loaded (direction r k) width p (partOf 256 k (r .words₀))) same),
-      a .its-answer ∙ sym (ap answerNumbers (D .reply-is ∙ ap (decode loaded (direction r k) width) same)))
+      rw (part-long 32 k (length ds) (r .steps₀) (omega arith) (room .0), part-long 256 k (length ds) (r .words₀) (omega arith) (room .1), e) refl in (
+        a .its-steps ∙ sym (D .steps-are ∙ ap (λ (p : Lent). decodedSteps loaded (direction r k) width p (partOf 32 k (r .steps₀))) same),
+        a .its-words ∙ sym (D .words-are ∙ ap (λ (p : Lent). decodedWords loaded (direction r k) width p (partOf 256 k (r .words₀))) same),
+        a .its-answer ∙ sym (ap answerNumbers (D .reply-is ∙ ap (decode loaded (direction r k) width) same)),
+      )
 
   -- so where it has an answer, as many steps and words as are reported stand there, whatever stood there before
   pub round-found : (k : ℕ) → k < countOf r → (a : Answer) → decode loaded (direction r k) width (alone (r .store₀)) ≡ done a
@@ -294,9 +298,10 @@ module _ {loaded : List ℤ} {width : ℤ} (r : Round loaded width) (passes : re
       let found = answerSteps (answer (bookOf loaded) (direction r k) width) in let words = targetWords (bookOf loaded) found in
       let at = round-at k l in let n = decode-counts loaded (direction r k) width (alone store) a e in
       let refusal = decodeRefusal loaded (direction r k) width (alone store) in
-      let p : refusal ≡ 0 = done-passes refusal (searchAnswer (bookOf loaded) (direction r k) width) a e in
-      (rw (at .its-steps, written-done refusal found (partOf 32 k (r .steps₀)) p, n .0) (take-append-seam found _),
-      rw (at .its-words, written-done refusal words (partOf 256 k (r .words₀)) p, n .1) (take-append-seam words _))
+      let p : refusal ≡ 0 = done-passes refusal (searchAnswer (bookOf loaded) (direction r k) width) a e in (
+        rw (at .its-steps, written-done refusal found (partOf 32 k (r .steps₀)) p, n .0) (take-append-seam found _),
+        rw (at .its-words, written-done refusal words (partOf 256 k (r .words₀)) p, n .1) (take-append-seam words _),
+      )
 
   -- as many directions as ends
   by-count : {A : Type 0} (size : ℕ) (xs ys : List A) → drop (size * length ds) xs ≡ drop (size * length ds) ys → drop (size * countOf r) xs ≡ drop (size * countOf r) ys
@@ -371,9 +376,10 @@ module _ {loaded : List ℤ} {width : ℤ} (r : Round loaded width) (passes : re
 
 -- ════ the order of the directions
 
--- "The order of the directions shows in nothing but the places": two rounds of the same book and width, with stores of the same length
+-- so it shows in nothing but the places: two rounds of the same book and width
 module _ {loaded : List ℤ} {width : ℤ} (r s : Round loaded width) (passes : refusalOf r ≡ 0) (passes′ : refusalOf s ≡ 0) where
-  -- where direction i of the one is direction j of the other, its answer is the same, and what is written over the same steps and words ..
+  -- with "the same store", or one as long: where direction i of the one is direction j of the other, its answer is the same, and what is written over the same steps
+  -- and words ..
   pub round-order : length (r .store₀) ≡ length (s .store₀) → (i j : ℕ) → i < countOf r → j < countOf s → direction r i ≡ direction s j
       → (partOf 9 i (r .answers₁) ≡ partOf 9 j (s .answers₁))
       × (partOf 32 i (r .steps₀) ≡ partOf 32 j (s .steps₀) → partOf 32 i (r .steps₁) ≡ partOf 32 j (s .steps₁))
@@ -385,14 +391,15 @@ module _ {loaded : List ℤ} {width : ℤ} (r s : Round loaded width) (passes : 
   -- .. so are the steps and words that were written, whatever stood there before
   pub round-order-found : length (r .store₀) ≡ length (s .store₀) → (i j : ℕ) → i < countOf r → j < countOf s → direction r i ≡ direction s j
       → (a : Answer) → decode loaded (direction r i) width (alone (r .store₀)) ≡ done a
-      → (take (a .steps) (partOf 32 i (r .steps₁)) ≡ take (a .steps) (partOf 32 j (s .steps₁))) × (take (a .words) (partOf 256 i (r .words₁)) ≡ take (a .words) (partOf 256 j (s .words₁)))
+      → (take (a .steps) (partOf 32 i (r .steps₁)) ≡ take (a .steps) (partOf 32 j (s .steps₁)))
+      × (take (a .words) (partOf 256 i (r .words₁)) ≡ take (a .words) (partOf 256 j (s .words₁)))
   round-order-found n i j l m e a d =
       let x = round-found r passes i l a d in let y = round-found s passes′ j m a (rw (sym e, sym n) d) in
       (x .0 ∙ rw e refl ∙ sym (y .0), x .1 ∙ rw e refl ∙ sym (y .1))
 
   -- and the store is the same where it was and the directions are the same, in whatever order
-  pub round-order-store : r .store₀ ≡ s .store₀ → ((d : List ℕ) → List·Memᴰ d (directionsIn r) → List·Memᴰ d (directionsIn s)) → ((d : List ℕ) → List·Memᴰ d (directionsIn s) → List·Memᴰ d (directionsIn r))
-      → r .store₁ ≡ s .store₁
+  pub round-order-store : r .store₀ ≡ s .store₀ → ((d : List ℕ) → List·Memᴰ d (directionsIn r) → List·Memᴰ d (directionsIn s))
+      → ((d : List ℕ) → List·Memᴰ d (directionsIn s) → List·Memᴰ d (directionsIn r)) → r .store₁ ≡ s .store₁
   round-order-store e to from =
       let test = isSearched loaded width (r .store₀) in
       let t : any test (directionsIn r) ≡ any test (directionsIn s) = same-test
