@@ -24,7 +24,7 @@ use Rattle.meaning.specs.Round.{areRising, areEnds, directionsFrom, directionsO
 use Rattle.meaning.specs.declared.Answer.{Answer}
 use Rattle.meaning.specs.declared.Decoded.{Decoded}
 use Rattle.meaning.specs.declared.Step.{Step}
-use Rattle.meaning.proofs.Chains.{first-passes, rest-passes, test-passes, done-passes, written-done}
+use Rattle.meaning.proofs.Chains.{rest-passes, test-passes, done-passes, written-done}
 use Rattle.meaning.proofs.Demands.{decode-counts}
 use Rattle.meaning.proofs.Lengths.{steps-keep, words-keep, answer-nine}
 use Rattle.meaning.proofs.Parts.{partOf, part-long, parts-long, parts-at, parts-behind, endBefore, begins, directions-count, direction-at, rising-at, store-long}
