@@ -4,13 +4,13 @@ use Prim.Native.Nat.{ℕ, zero, suc, _+_, _-_, _*_, _≤_, _<_}
 use native.Mathlib.Nat.{mul-zero, mul-suc}
 use native.Mathlib.Omega.{arith}
 use mathlib.Core.Path.{_≡_, refl, sym, ap, _∙_, subst}
-use mathlib.Core.Bool.{Bool, true, false, _&&_}
+use mathlib.Core.Bool.{true}
 use mathlib.Core.List.{List, [], _∷_, _++_, append-assoc}
 use borrow.Author.Tests.{ltb-true}
 use lib.Dec.{ltb}
 use lib.IntN.{ℤ, pos}
-use lib.ListN.{length, getD, take, drop, replicate, length-append, length-drop, length-replicate}
-use lib.Seq.{length-take-le, take-length, take-at, drop-at, take-append-add, drop-append-add, drop-drop}
+use lib.ListN.{length, getD, take, drop, length-append, length-drop, length-replicate}
+use lib.Seq.{length-take-le, take-length, take-at, drop-at, take-append-add, drop-drop}
 use Rattle.laws.proofs.Tests.{both}
 use Rattle.meaning.specs.Reply.{clearedIf, beforeSearch, decodedStore}
 use Rattle.meaning.specs.Round.{areRising, directionsFrom, alone, byParts, storeAfter}
