@@ -13,6 +13,7 @@ ghost use Rattle.book.specs.Entries.{indexSize};
 ghost use Rattle.rounds.specs.Asked.{OpenedFor};
 
 pub mod ask;
+pub mod at;
 pub mod tell;
 
 // All questions of a round: the book's, 26 and 12. Where they pass, the book is open.
@@ -72,21 +73,17 @@ pub fn decode_round(
             room: 32,
             swept,
         };
-        let told = plain::decode_open(
+        let told = at::decode_at(
             book,
             &directions[from..end],
             &index,
             &mut options,
             turn,
-            &mut words[256 * k..256 * k + 256],
+            words,
             store,
+            k,
         );
-        swept = tell::put_told(
-            &mut steps[96 * k..96 * k + 96],
-            &mut answers[9 * k..9 * k + 9],
-            told,
-            swept,
-        );
+        swept = at::put_at(steps, answers, told, swept, k);
         from = end;
         k += 1;
     }
