@@ -27,12 +27,12 @@ use Rattle.lists.specs.Steps.{recordsIn, numbersOf, asNumbers, lentNumbers}
 use Rattle.lists.proofs.Threes.{how-many}
 use Rattle.lists.proofs.Rounds.{numbers-keep}
 use Rattle.answer.specs.declared.PlainReply.{PlainReply}
-use Rattle.rounds.specs.Told.{isSearched}
-use Rattle.rounds.specs.Places.{placesAt, putAt, DecodesAt}
+use Rattle.round_parts.specs.Told.{isSearched}
+use Rattle.round_parts.specs.Places.{placesAt, putAt, DecodesAt}
 use Rattle.opening.specs.Opening.{Open}
 use Rattle.opening.specs.declared.Counts.{Counts}
-use Rattle.rounds.specs.Asked.{areRisingTo, behindBook}
-use Rattle.rounds.specs.declared.ask.Room.{Room}
+use Rattle.round_parts.specs.Asked.{areRisingTo, behindBook}
+use Rattle.round_parts.specs.declared.ask.Room.{Room}
 use Rattle.rounds.proofs.Going.{Roomy, Going, direction-is, going-on, eachSteps, eachWords, eachAnswer}
 
 grouped : (a b c : Bool) → (a && b) && c ≡ a && (b && c)

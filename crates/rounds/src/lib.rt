@@ -3,6 +3,9 @@ use book::entries::INDEX_SIZE;
 use meaning::Checked;
 use opening::Opened;
 use plain::Turn;
+use round_parts::ask;
+use round_parts::ask::Room;
+use round_parts::at;
 ghost use mathlib.Core.Path.{_≡_};
 ghost use lib.ListN.{length};
 ghost use Rattle.meaning.specs.Reply.{checkedReply};
@@ -10,11 +13,7 @@ ghost use Rattle.meaning.specs.Round.{decodeRound, roundRefusal, directionsOf, 
 ghost use Prim.Native.Nat.{_≤_};
 ghost use Rattle.lists.specs.Steps.{asNumbers, lentNumbers};
 ghost use Rattle.book.specs.Entries.{indexSize};
-ghost use Rattle.rounds.specs.Asked.{OpenedFor};
-
-pub mod ask;
-pub mod at;
-pub mod tell;
+ghost use Rattle.round_parts.specs.Asked.{OpenedFor};
 
 // All questions of a round: the book's, 26 and 12. Where they pass, the book is open.
 fn open_round(
@@ -22,7 +21,7 @@ fn open_round(
     index: &mut [u16],
     ends: &[usize],
     most: usize,
-    room: ask::Room,
+    room: Room,
 ) -> Opened
     requires { ⌜ indexSize ≤ length (now index) ⌝ }
     ensures { λ r. ⌜ OpenedFor (now (book .entry)) (now (ends .entry)) most room (now (index .exit)) r ⌝ }
@@ -53,7 +52,7 @@ pub fn decode_round(
 {
     let mut index = [0u16; INDEX_SIZE];
     let mut options = [0u16; options::OPTIONS_SIZE];
-    let room = ask::Room {
+    let room = Room {
         steps: steps.len() / 3,
         words: words.len(),
         answers: answers.len(),

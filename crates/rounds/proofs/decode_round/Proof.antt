@@ -7,15 +7,15 @@ use mir.Facts.{toZ-ofZ}
 use mir.Syntax.{w64}
 use mir.Val.{toZ}
 use Rattle.options.specs.Options.{optionsSize}
-use Rattle.rounds.proofs.Counted.{all-countable}
+use Rattle.round_parts.proofs.Counted.{all-countable}
 use Rattle.rounds.proofs.Going.{Going, going-begins}
 use Rattle.rounds.proofs.Whole.{Ready, ready, steps-long, words-long, store-long, answers-long, from-end, end-inside, steps-inside, words-inside, answers-inside, words-many, going-next, round-ends, round-passed, round-refused}
 use Rattle.rounds.proofs.decode_round.Statement.{statement}
 use Rattle.rounds.proofs.decode_round.Tie as tie
 use Rattle.rounds.proofs.decode_round.Reads as reads
 use Rattle.rounds.proofs.decode_round.Lts as lts
-use Rattle.rounds.proofs.at.decode_at.Reads as decode-at-reads
-use Rattle.rounds.proofs.at.put_at.Reads as put-at-reads
+use Rattle.round_parts.proofs.at.decode_at.Reads as decode-at-reads
+use Rattle.round_parts.proofs.at.put_at.Reads as put-at-reads
 use Rattle.rounds.proofs.open_round.Reads as open-round-reads
 
 options-long : {n : ℕ} → 131138 ≡ n → optionsSize ≤ n

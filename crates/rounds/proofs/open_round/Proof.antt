@@ -6,7 +6,7 @@ use Rattle.rounds.proofs.open_round.Tie as tie
 use Rattle.rounds.proofs.open_round.Reads as reads
 use Rattle.rounds.proofs.open_round.Lts as lts
 use Rattle.opening.proofs.open_book.Reads as open-book-reads
-use Rattle.rounds.proofs.ask.ask.Reads as ask-reads
+use Rattle.round_parts.proofs.ask.ask.Reads as ask-reads
 
 open-book-requires : tie.Need-open-book-requires
 open-book-requires c κs = search needs
