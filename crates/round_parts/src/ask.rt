@@ -1,13 +1,15 @@
-// The questions of a round behind the book's: 26 and 12.
+// The questions of a round: the book's, 26 and 12.
 use meaning::Checked;
 use meaning::Refusal;
+use opening::Opened;
 ghost use mathlib.Core.Path.{_≡_};
 ghost use mathlib.Core.Bool.{_&&_};
 ghost use Prim.Native.Nat.{_*_, _≤_};
 ghost use lib.Dec.{leb, ltb};
 ghost use lib.ListN.{length};
 ghost use Rattle.meaning.specs.Questions.{within};
-ghost use Rattle.round_parts.specs.Asked.{areRisingTo, behindBook, CheckedBy};
+ghost use Rattle.book.specs.Entries.{indexSize};
+ghost use Rattle.round_parts.specs.Asked.{areRisingTo, behindBook, CheckedBy, OpenedFor};
 
 // Above the end before, and not past a list of `most` words.
 fn is_end(before: usize, end: usize, most: usize) -> bool
@@ -62,7 +64,7 @@ fn has_room(count: usize, room: Room) -> bool
 }
 
 // 26 of ends that mark a list of `most` words, then 12.
-pub fn ask(ends: &[usize], most: usize, room: Room) -> Checked
+fn ask(ends: &[usize], most: usize, room: Room) -> Checked
     ensures { λ r. ⌜ CheckedBy (behindBook most (now (ends .entry)) room) r ⌝ }
 {
     if !is_count(ends.len()) {
@@ -75,4 +77,24 @@ pub fn ask(ends: &[usize], most: usize, room: Room) -> Checked
         return Checked::Refused(Refusal::StepsOrWordsTooShort);
     }
     Checked::Passed
+}
+
+// All questions of a round: the book's, 26 and 12. Where they pass, the book is open.
+pub fn open_round(
+    book: &[i32],
+    index: &mut [u16],
+    ends: &[usize],
+    most: usize,
+    room: Room,
+) -> Opened
+    requires { ⌜ indexSize ≤ length (now index) ⌝ }
+    ensures { λ r. ⌜ OpenedFor (now (book .entry)) (now (ends .entry)) most room (now (index .exit)) r ⌝ }
+{
+    match opening::open_book(book, index) {
+        Opened::Refused(refusal) => Opened::Refused(refusal),
+        Opened::Book(counts) => match ask(ends, most, room) {
+            Checked::Passed => Opened::Book(counts),
+            Checked::Refused(refusal) => Opened::Refused(refusal),
+        },
+    }
 }

@@ -10,30 +10,7 @@ ghost use mathlib.Core.Path.{_≡_};
 ghost use lib.ListN.{length};
 ghost use Rattle.meaning.specs.Reply.{checkedReply};
 ghost use Rattle.meaning.specs.Round.{decodeRound, roundRefusal, directionsOf, RoundLists};
-ghost use Prim.Native.Nat.{_≤_};
 ghost use Rattle.lists.specs.Steps.{asNumbers, lentNumbers};
-ghost use Rattle.book.specs.Entries.{indexSize};
-ghost use Rattle.round_parts.specs.Asked.{OpenedFor};
-
-// All questions of a round: the book's, 26 and 12. Where they pass, the book is open.
-fn open_round(
-    book: &[i32],
-    index: &mut [u16],
-    ends: &[usize],
-    most: usize,
-    room: Room,
-) -> Opened
-    requires { ⌜ indexSize ≤ length (now index) ⌝ }
-    ensures { λ r. ⌜ OpenedFor (now (book .entry)) (now (ends .entry)) most room (now (index .exit)) r ⌝ }
-{
-    match opening::open_book(book, index) {
-        Opened::Refused(refusal) => Opened::Refused(refusal),
-        Opened::Book(counts) => match ask::ask(ends, most, room) {
-            Checked::Passed => Opened::Book(counts),
-            Checked::Refused(refusal) => Opened::Refused(refusal),
-        },
-    }
-}
 
 // Decodes the directions that the ends mark in the list, one after the other: direction k on the 96 numbers for steps and the 256 words that follow those
 // of direction k - 1, and its answer in the next nine numbers. The store is gone through once, before the first search. A refused round changes no list.
@@ -57,7 +34,7 @@ pub fn decode_round(
         words: words.len(),
         answers: answers.len(),
     };
-    let counts = match open_round(book, &mut index, ends, directions.len(), room) {
+    let counts = match ask::open_round(book, &mut index, ends, directions.len(), room) {
         Opened::Book(counts) => counts,
         Opened::Refused(refusal) => return Checked::Refused(refusal),
     };

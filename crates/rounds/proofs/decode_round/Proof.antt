@@ -16,7 +16,7 @@ use Rattle.rounds.proofs.decode_round.Reads as reads
 use Rattle.rounds.proofs.decode_round.Lts as lts
 use Rattle.round_parts.proofs.at.decode_at.Reads as decode-at-reads
 use Rattle.round_parts.proofs.at.put_at.Reads as put-at-reads
-use Rattle.rounds.proofs.open_round.Reads as open-round-reads
+use Rattle.round_parts.proofs.ask.open_round.Reads as open-round-reads
 
 options-long : {n : ℕ} → 131138 ≡ n → optionsSize ≤ n
 options-long e = omega arith
@@ -57,16 +57,16 @@ shared-slice-read-end : tie.Need-shared-slice-read-end Inv-loop μ-loop
 shared-slice-read-end c = omega arith
 
 mul-decode-at : tie.Need-mul-decode-at Inv-loop μ-loop
-mul-decode-at c = let h : c .before .before .loop .k < length (c .before .before .before .before .before .before .before .before .before .before .before .before .before .args .ends .now) = omega arith in omega (arith, from-end _ _ _ _ _ _ _ _ (c .before .before .loop .inv .0) (c .before .before .loop .inv .1) h, end-inside _ _ _ _ _ _ _ _ (c .before .before .loop .inv .0) (c .before .before .loop .inv .1) h)
+mul-decode-at c = let h = c .before .loop-test .taken in omega (arith, from-end _ _ _ _ _ _ _ _ (c .before .before .loop .inv .0) (c .before .before .loop .inv .1) h, end-inside _ _ _ _ _ _ _ _ (c .before .before .loop .inv .0) (c .before .before .loop .inv .1) h)
 
 sub-decode-at : tie.Need-sub-decode-at Inv-loop μ-loop
-sub-decode-at c = let h : c .before .before .loop .k < length (c .before .before .before .before .before .before .before .before .before .before .before .before .before .args .ends .now) = omega arith in from-end _ _ _ _ _ _ _ _ (c .before .before .loop .inv .0) (c .before .before .loop .inv .1) h
+sub-decode-at c = let h = c .before .loop-test .taken in from-end _ _ _ _ _ _ _ _ (c .before .before .loop .inv .0) (c .before .before .loop .inv .1) h
 
 part-decode-at-start : tie.Need-part-decode-at-start Inv-loop μ-loop
-part-decode-at-start c = let h : c .before .before .loop .k < length (c .before .before .before .before .before .before .before .before .before .before .before .before .before .args .ends .now) = omega arith in from-end _ _ _ _ _ _ _ _ (c .before .before .loop .inv .0) (c .before .before .loop .inv .1) h
+part-decode-at-start c = let h = c .before .loop-test .taken in from-end _ _ _ _ _ _ _ _ (c .before .before .loop .inv .0) (c .before .before .loop .inv .1) h
 
 part-decode-at-end : tie.Need-part-decode-at-end Inv-loop μ-loop
-part-decode-at-end c = let h : c .before .before .loop .k < length (c .before .before .before .before .before .before .before .before .before .before .before .before .before .args .ends .now) = omega arith in end-inside _ _ _ _ _ _ _ _ (c .before .before .loop .inv .0) (c .before .before .loop .inv .1) h
+part-decode-at-end c = let h = c .before .loop-test .taken in end-inside _ _ _ _ _ _ _ _ (c .before .before .loop .inv .0) (c .before .before .loop .inv .1) h
 
 slice-aggregate-decode-at : tie.Need-slice-aggregate-decode-at Inv-loop μ-loop
 slice-aggregate-decode-at c = sym (c .before .before .before .before .before .before .before .before .before .open-round .kept .1 .0 ∙ length-replicate {A = ℕ} _ 0)
@@ -75,14 +75,15 @@ slice-aggregate-decode-at-2 : tie.Need-slice-aggregate-decode-at-2 Inv-loop μ-l
 slice-aggregate-decode-at-2 c = c .before .before .before .before .before .loop .inv .2
 
 decode-at-requires : tie.Need-decode-at-requires Inv-loop μ-loop
-decode-at-requires c κs = let h : c .before .before .before .before .before .before .before .loop .k < length (c .before .before .before .before .before .before .before .before .before .before .before .before .before .before .before .before .before .before .args .ends .now) = omega arith in (c .before .before .before .before .before .before .before .loop .inv .0 .opened, ((refl, options-long (c .before .before .before .before .before .before .before .loop .inv .2)), (c .before .before .before .before .before .before .before .loop .inv .1 .swept-is, words-inside _ _ _ _ _ _ _ _ (c .before .before .before .before .before .before .before .loop .inv .0) (c .before .before .before .before .before .before .before .loop .inv .1) h)))
+decode-at-requires c κs = let h = c .before .before .before .before .before .before .loop-test .taken in (c .before .before .before .before .before .before .before .loop .inv .0 .opened, ((refl, options-long (c .before .before .before .before .before .before .before .loop .inv .2)), (c .before .before .before .before .before .before .before .loop .inv .1 .swept-is, words-inside _ _ _ _ _ _ _ _ (c .before .before .before .before .before .before .before .loop .inv .0) (c .before .before .before .before .before .before .before .loop .inv .1) h)))
 
 put-at-requires : tie.Need-put-at-requires Inv-loop μ-loop
 put-at-requires c κs =
-    let h : c .before .before .before .before .before .before .before .before .before .before .before .before .before .before .loop .k < length (c .before .before .before .before .before .before .before .before .before .before .before .before .before .before .before .before .before .before .before .before .before .before .before .before .before .args .ends .now) = omega arith in
-    let D = c .before .before .before .before .before .before .decode-at .ensures .decodes in
-    ((steps-inside _ _ _ _ _ _ _ _ (c .before .before .before .before .before .before .before .before .before .before .before .before .before .before .loop .inv .0) (c .before .before .before .before .before .before .before .before .before .before .before .before .before .before .loop .inv .1) h, answers-inside _ _ _ _ _ _ _ _ (c .before .before .before .before .before .before .before .before .before .before .before .before .before .before .loop .inv .0) (c .before .before .before .before .before .before .before .before .before .before .before .before .before .before .loop .inv .1) h),
-    (D .has-room, all-countable _ _ _ _ _ _ _ _ _ D (omega arith) (below (words-many _ _ _ _ _ _ _ _ (c .before .before .before .before .before .before .before .before .before .before .before .before .before .before .loop .inv .0) (c .before .before .before .before .before .before .before .before .before .before .before .before .before .before .loop .inv .1) h) (omega arith)) (below (store-long _ _ _ _ _ _ _ _ (c .before .before .before .before .before .before .before .before .before .before .before .before .before .before .loop .inv .0) (c .before .before .before .before .before .before .before .before .before .before .before .before .before .before .loop .inv .1)) (omega (arith, c .before .before .before .before .before .before .before .before .before .before .before .before .before .before .before .before .before .before .before .before .before .before .before .before .before .good .1 .1 .1 .1 .1 .1 .0)))))
+    let h = c .before .before .before .before .before .before .before .before .before .before .before .before .before .loop-test .taken in
+    let D = c .before .before .before .before .before .before .decode-at .ensures .decodes in (
+      (steps-inside _ _ _ _ _ _ _ _ (c .before .before .before .before .before .before .before .before .before .before .before .before .before .before .loop .inv .0) (c .before .before .before .before .before .before .before .before .before .before .before .before .before .before .loop .inv .1) h, answers-inside _ _ _ _ _ _ _ _ (c .before .before .before .before .before .before .before .before .before .before .before .before .before .before .loop .inv .0) (c .before .before .before .before .before .before .before .before .before .before .before .before .before .before .loop .inv .1) h),
+      (D .has-room, all-countable _ _ _ _ _ _ _ _ _ D (omega arith) (below (words-many _ _ _ _ _ _ _ _ (c .before .before .before .before .before .before .before .before .before .before .before .before .before .before .loop .inv .0) (c .before .before .before .before .before .before .before .before .before .before .before .before .before .before .loop .inv .1) h) (omega arith)) (below (store-long _ _ _ _ _ _ _ _ (c .before .before .before .before .before .before .before .before .before .before .before .before .before .before .loop .inv .0) (c .before .before .before .before .before .before .before .before .before .before .before .before .before .before .loop .inv .1)) (omega (arith, c .before .before .before .before .before .before .before .before .before .before .before .before .before .before .before .before .before .before .before .before .before .before .before .before .before .good .1 .1 .1 .1 .1 .1 .0)))),
+    )
 
 add-k : tie.Need-add-k Inv-loop μ-loop
 add-k c = omega arith
@@ -92,10 +93,11 @@ loop-less c = omega arith
 
 loop-again : tie.Need-loop-again Inv-loop μ-loop
 loop-again c =
-    let h : c .before .before .before .before .before .before .before .before .before .before .before .before .before .before .before .before .before .before .loop .k < length (c .before .before .before .before .before .before .before .before .before .before .before .before .before .before .before .before .before .before .before .before .before .before .before .before .before .before .before .before .before .args .ends .now) = omega arith in
-    (c .before .before .before .before .before .before .before .before .before .before .before .before .before .before .before .before .before .before .loop .inv .0,
-    going-next _ _ _ _ _ _ _ _ (c .before .before .before .before .before .before .before .before .before .before .before .before .before .before .before .before .before .before .loop .inv .0) (c .before .before .before .before .before .before .before .before .before .before .before .before .before .before .before .before .before .before .loop .inv .1) h (c .before .before .before .before .before .before .before .before .before .before .decode-at .result) (c .before .before .before .before .before .before .before .before .before .before .decode-at .last .1 .1 .1 .1 .1 .0) (c .before .before .before .before .before .before .before .before .before .before .decode-at .last .1 .1 .1 .1 .1 .1 .0) (c .before .before .before .before .before .before .before .before .before .before .decode-at .ensures) (c .before .before .before .put-at .result) (c .before .before .before .put-at .last .0) (c .before .before .before .put-at .last .1 .0) (c .before .before .before .put-at .ensures .0) (c .before .before .before .put-at .ensures .1 .0) (c .before .before .before .put-at .ensures .1 .1),
-    c .before .before .before .before .before .before .before .before .before .before .before .before .before .before .before .before .before .before .loop .inv .2 ∙ sym (c .before .before .before .before .before .before .before .before .before .before .decode-at .kept .1 .1 .1 .0))
+    let h = c .before .before .before .before .before .before .before .before .before .before .before .before .before .before .before .before .before .loop-test .taken in (
+      c .before .before .before .before .before .before .before .before .before .before .before .before .before .before .before .before .before .before .loop .inv .0,
+      going-next _ _ _ _ _ _ _ _ (c .before .before .before .before .before .before .before .before .before .before .before .before .before .before .before .before .before .before .loop .inv .0) (c .before .before .before .before .before .before .before .before .before .before .before .before .before .before .before .before .before .before .loop .inv .1) h (c .before .before .before .before .before .before .before .before .before .before .decode-at .result) (c .before .before .before .before .before .before .before .before .before .before .decode-at .last .1 .1 .1 .1 .1 .0) (c .before .before .before .before .before .before .before .before .before .before .decode-at .last .1 .1 .1 .1 .1 .1 .0) (c .before .before .before .before .before .before .before .before .before .before .decode-at .ensures) (c .before .before .before .put-at .result) (c .before .before .before .put-at .last .0) (c .before .before .before .put-at .last .1 .0) (c .before .before .before .put-at .ensures .0) (c .before .before .before .put-at .ensures .1 .0) (c .before .before .before .put-at .ensures .1 .1),
+      c .before .before .before .before .before .before .before .before .before .before .before .before .before .before .before .before .before .before .loop .inv .2 ∙ sym (c .before .before .before .before .before .before .before .before .before .before .decode-at .kept .1 .1 .1 .0),
+    )
 
 same-length : tie.Need-same-length Inv-loop μ-loop
 same-length c = steps-long _ _ _ _ _ _ _ _ (c .before .loop .inv .0) (c .before .loop .inv .1)

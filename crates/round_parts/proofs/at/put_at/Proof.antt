@@ -77,10 +77,11 @@ same-length-2 c = search needs
 
 returns : tie.Need-returns
 returns c =
-    let s = c .before .before .before .before .before .before .before in let a = s .args in let t = c .before .before .before .put-told in
-    (mid-put 96 (a .k) (a .steps .now) (t .last .0)
-    ∙ ap (putAt 96 (a .k) (a .steps .now)) (t .ensures .0 ∙ ap (writtenOver (numbersOf (stepsOf (a .told .plain)))) (mid-is 96 (a .k) (a .steps .now))),
-    (mid-put 9 (a .k) (a .answers .now) (t .last .1 .0) ∙ ap (putAt 9 (a .k) (a .answers .now)) (t .ensures .1 .0), t .ensures .1 .1))
+    let s = c .before .before .before .before .before .before .before in let a = s .args in let t = c .before .before .before .put-told in (
+      mid-put 96 (a .k) (a .steps .now) (t .last .0)
+          ∙ ap (putAt 96 (a .k) (a .steps .now)) (t .ensures .0 ∙ ap (writtenOver (numbersOf (stepsOf (a .told .plain)))) (mid-is 96 (a .k) (a .steps .now))),
+      (mid-put 9 (a .k) (a .answers .now) (t .last .1 .0) ∙ ap (putAt 9 (a .k) (a .answers .now)) (t .ensures .1 .0), t .ensures .1 .1),
+    )
 
 pub put-at-spec : {M : Type 1} → statement M
 put-at-spec =

@@ -1,12 +1,12 @@
 -- The book is refused, or the round, or the book is open.
-use Rattle.rounds.proofs.Asking.{refused-at-once, refused-behind}
+use Rattle.round_parts.proofs.Asking.{refused-at-once, refused-behind}
 use borrow.Author.Needs.{needs}
-use Rattle.rounds.proofs.open_round.Statement.{statement}
-use Rattle.rounds.proofs.open_round.Tie as tie
-use Rattle.rounds.proofs.open_round.Reads as reads
-use Rattle.rounds.proofs.open_round.Lts as lts
+use Rattle.round_parts.proofs.ask.open_round.Statement.{statement}
+use Rattle.round_parts.proofs.ask.open_round.Tie as tie
+use Rattle.round_parts.proofs.ask.open_round.Reads as reads
+use Rattle.round_parts.proofs.ask.open_round.Lts as lts
 use Rattle.opening.proofs.open_book.Reads as open-book-reads
 use Rattle.round_parts.proofs.ask.ask.Reads as ask-reads
 
 open-book-requires : tie.Need-open-book-requires
 open-book-requires c κs = search needs
