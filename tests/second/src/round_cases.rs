@@ -182,14 +182,14 @@ fn break_ends(rng: &mut Rng, case: &mut RoundCase) {
     match rng.below(9) {
         0 => ends.clear(),
         1 => {
-            // Good directions, but too many; the lists have places for all.
+            // Good directions, but too many; the lists have places for one more than are allowed.
             let count = rng.pick(&[65, 65, 66, 70]);
             while ends.len() < count {
                 case.directions.push(11);
                 ends.push(case.directions.len());
             }
-            (case.steps_len, case.words_len) = (STEP_NUMBERS * count, WORD_PLACES * count);
-            case.answers_len = ANSWER * count;
+            (case.steps_len, case.words_len) = (STEP_NUMBERS * 65, WORD_PLACES * 65);
+            case.answers_len = ANSWER * 65;
         }
         2 => ends[at] = at.checked_sub(1).map_or(0, |before| ends[before]),
         3 => ends[0] = 0,
