@@ -208,7 +208,7 @@ pub fn made(seed: u64, inputs: usize) -> Lines {
             rounds::full_book_imports(&mut rng, &shape, &mut lines);
             rounds::full_books_together(&mut rng, &shape, &mut lines);
         }
-        if k % 16 == 12 {
+        if k % 32 == 12 || k % 32 == 23 {
             rounds::directions_together(&mut rng, &shape, &mut lines);
         }
         k += 1;

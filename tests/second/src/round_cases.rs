@@ -106,7 +106,7 @@ pub fn with_flaw(rng: &mut Rng, shape: &Shape, flaw: Flaw) -> RoundCase {
     };
     let book = gen::book_saying(rng, shape, code);
     let directions = directions(rng, shape, check_book(&book).ok().as_ref());
-    let width = match rng.below(10) {
+    let width = match rng.below(6) {
         0 => gen::bad_width(rng),
         _ => gen::width(rng, shape),
     };

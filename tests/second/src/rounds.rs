@@ -114,7 +114,7 @@ pub fn round(rng: &mut Rng, k: usize, calls: &mut dyn Calls) {
         editing_round(rng, &shape, calls);
         edits_in_turn(rng, &shape, calls);
     }
-    if k % 40 == 20 {
+    if k % 32 == 20 {
         full_book_edits(rng, &shape, calls);
         full_book_imports(rng, &shape, calls);
         full_books_together(rng, &shape, calls);
@@ -122,7 +122,7 @@ pub fn round(rng: &mut Rng, k: usize, calls: &mut dyn Calls) {
     if k % 4 == 1 {
         importing_round(rng, &shape, calls);
     }
-    if k % 4 == 3 || k % 60 == 0 {
+    if k % 16 == 3 || k % 16 == 10 || k % 60 == 0 {
         directions_together(rng, &shape, calls);
     }
     scoring_round(rng, &shape, calls);
