@@ -95,7 +95,7 @@ pub fn run(seed: u64, count: usize) -> Tally {
             rounds::full_book_imports(&mut rng, &shape, &mut tally);
             rounds::full_books_together(&mut rng, &shape, &mut tally);
         }
-        if round % 32 == 5 || round % 32 == 24 {
+        if round % 64 == 5 || round % 64 == 40 {
             rounds::directions_together(&mut rng, &shape, &mut tally);
         }
         if round % 40 == 0 {
