@@ -2,9 +2,9 @@
  *
  * A list is lent as a pointer and its length. Every call may be handed any list and any number: it answers, or refuses with the number of the
  * question whose answer was no (docs/REFUSALS.md). No call keeps a pointer, allocates, or touches a list beyond its length.
- * A list that a call may write (book or direction of a reading, the book of an addition, a removal or an import, steps, words, store, report) must not overlap another list of the same call;
+ * A list that a call may write (book or direction of a reading, the book of an addition, a removal or an import, steps, words, store, report, answers) must not overlap another list of the same call;
  * lists that are only read may. A pointer is aligned for its type, and not null even where the length is 0.
- * A decode takes 756,000 bytes of stack, a scoring 494,000, reading, checking or revising a book and the two target calls 477,000, an import 1,266,000,
+ * A decode or a round takes 756,000 bytes of stack, a scoring 494,000, reading, checking or revising a book and the two target calls 477,000, an import 1,266,000,
  * reading a direction fewer than 1,000.
  *
  * A loaded book is a list of signed 32-bit numbers: those of its lines, one line after the other, each with its kind first (B 1, P 2, T 3, U 4, D 5), and
@@ -81,6 +81,20 @@ int32_t phrase_score(const int32_t *book, size_t book_len, const uint16_t *direc
 int32_t phrase_decode(const int32_t *book, size_t book_len, const uint16_t *direction, size_t direction_len, int64_t width,
                       uint16_t *steps, size_t steps_len, uint16_t *words, size_t words_len,
                       int64_t *store, size_t store_len, int64_t *report, size_t report_len);
+
+/* Decodes a round's directions, 1 to 64, with one book, width and store. They follow one another in `directions`, and the k-th of `ends` says where direction k
+ * ends: the first one begins at 0, and each other one where the one before it ends; words behind the last end are not looked at.
+ * Returns 0, or the refusal of the whole round: 2 to 6, 21 or 20 of the book; 26 where there are not 1 to 64 ends, an end is not above the one before (0 for
+ * the first), or an end lies past the list; 12 where `steps` has fewer than 96 numbers, `words` fewer than 256 or `answers` fewer than 9 for each direction.
+ * A refused round changes no list.
+ * Counted from 0, direction k has the 96 numbers of `steps` from 96 * k on (32 steps), the 256 of `words` from 256 * k on, and the 9 of `answers` from 9 * k on:
+ * its answer, 0 or one of 9, 10, 11, 13, 14 and 15, and then the eight values that phrase_decode reports, or eight zeros after a refusal. All of them are what
+ * phrase_decode leaves of that direction on those places with the same store and width, and `store` is as those decodes, one after the other, leave it: as
+ * before where every direction was refused with 9, 10 or 11, and else every number is 0. Places behind those of the last direction are as before. */
+int32_t phrase_decode_round(const int32_t *book, size_t book_len, const uint16_t *directions, size_t directions_len,
+                            const size_t *ends, size_t ends_len, int64_t width,
+                            uint16_t *steps, size_t steps_len, uint16_t *words, size_t words_len,
+                            int64_t *store, size_t store_len, int64_t *answers, size_t answers_len);
 
 #ifdef __cplusplus
 }
