@@ -7,6 +7,8 @@ ghost use Rattle.meaning.specs.Reply.{writtenOver};
 ghost use Rattle.records.specs.Plain.{noSteps, stepIn, stepsOf, Added, Gathered};
 use meaning::Step;
 
+pub mod rows;
+
 // Up to 33 steps as plain numbers, three to a step: first, last, entry.
 pub struct Plain {
     pub count: usize,
