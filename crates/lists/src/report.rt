@@ -49,7 +49,7 @@ fn put(report: &mut [i64], k: usize, v: i64)
 }
 
 // Puts as many of the numbers as the list has places.
-fn fill(report: &mut [i64], numbers: &[i64])
+pub fn fill(report: &mut [i64], numbers: &[i64])
     ensures { λ _. ⌜ now (report .exit) ≡ filledWith (now (numbers .entry)) (now (report .entry)) ⌝ }
 {
     let mut i = 0;

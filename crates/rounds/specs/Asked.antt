@@ -1,25 +1,28 @@
 -- The questions of a round behind the book's, as they are asked one after the other.
 use Prim.Native.Nat.{ℕ, _*_}
 use mathlib.Core.Path.{_≡_}
-use mathlib.Core.Bool.{_&&_}
+use mathlib.Core.Bool.{Bool, _&&_}
 use mathlib.Core.List.{List}
 use lib.Dec.{leb}
 use lib.ListN.{length}
 use Rattle.laws.specs.Lists.{all}
-use Rattle.meaning.specs.Questions.{_unless_, within, number}
+use Rattle.meaning.specs.Questions.{_unless_, _orelse_, within, number}
 use Rattle.meaning.specs.Round.{areRising}
 use Rattle.meaning.specs.declared.Checked.{Checked}
 use Rattle.meaning.specs.declared.Checked.the-variants.{Passed, Refused}
+use Rattle.rounds.specs.declared.ask.Room.{Room}
 
--- 26, for a list of `most` words
-abbrev pub endsRefusal : ℕ → List ℕ → ℕ
-endsRefusal most ends = 26 unless (within 1 64 (length ends) && areRising 0 ends && all (λ end. leb end most) ends)
+-- each end is above the one before and not past a list of `most` words
+abbrev pub areRisingTo : ℕ → ℕ → List ℕ → Bool
+areRisingTo most before ends = areRising before ends && all (λ end. leb end most) ends
 
--- 12, for so many directions
-abbrev pub roomRefusal : ℕ → ℕ → ℕ → ℕ → ℕ
-roomRefusal count steps words answers = 12 unless (leb (32 * count) steps && leb (256 * count) words && leb (9 * count) answers)
+-- 26, then 12
+abbrev pub behindBook : ℕ → List ℕ → Room → ℕ
+behindBook most ends room =
+    26 unless (within 1 64 (length ends) && areRisingTo most 0 ends)
+    orelse 12 unless (leb (32 * length ends) (room .steps) && leb (256 * length ends) (room .words) && leb (9 * length ends) (room .answers))
 
--- what is replied to such a question
+-- what is replied to such questions
 abbrev pub CheckedBy : ℕ → Checked → Type 0
 CheckedBy k Passed = k ≡ 0
 CheckedBy k (Refused refusal) = k ≡ number refusal

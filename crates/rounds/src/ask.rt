@@ -4,21 +4,27 @@ use meaning::Refusal;
 ghost use mathlib.Core.Path.{_≡_};
 ghost use mathlib.Core.Bool.{_&&_};
 ghost use Prim.Native.Nat.{_*_, _≤_};
-ghost use lib.Dec.{leb};
+ghost use lib.Dec.{leb, ltb};
 ghost use lib.ListN.{length};
-ghost use Rattle.laws.specs.Lists.{all};
-ghost use Rattle.meaning.specs.Round.{areRising};
-ghost use Rattle.rounds.specs.Asked.{endsRefusal, roomRefusal, CheckedBy};
+ghost use Rattle.meaning.specs.Questions.{within};
+ghost use Rattle.rounds.specs.Asked.{areRisingTo, behindBook, CheckedBy};
 
-// Each end is above the one before, and none lies past a list of `most` words.
+// Above the end before, and not past a list of `most` words.
+fn is_end(before: usize, end: usize, most: usize) -> bool
+    ensures { λ r. ⌜ r ≡ ltb before end && leb end most ⌝ }
+{
+    before < end && end <= most
+}
+
+// All ends are so; 0 stands before the first.
 fn are_rising(ends: &[usize], most: usize) -> bool
-    ensures { λ r. ⌜ r ≡ areRising 0 (now (ends .entry)) && all (λ end. leb end most) (now (ends .entry)) ⌝ }
+    ensures { λ r. ⌜ r ≡ areRisingTo most 0 (now (ends .entry)) ⌝ }
 {
     let mut before = 0;
     let mut k = 0;
     while k < ends.len() {
         let end = ends[k];
-        if end <= before || most < end {
+        if !is_end(before, end, most) {
             return false;
         }
         before = end;
@@ -27,22 +33,45 @@ fn are_rising(ends: &[usize], most: usize) -> bool
     true
 }
 
-// Question 26, for a list of `most` words.
-pub fn ask_ends(ends: &[usize], most: usize) -> Checked
-    ensures { λ r. ⌜ CheckedBy (endsRefusal most (now (ends .entry))) r ⌝ }
+// There are 1 to 64.
+fn is_count(count: usize) -> bool
+    ensures { λ r. ⌜ r ≡ within 1 64 count ⌝ }
 {
-    if ends.len() == 0 || 64 < ends.len() || !are_rising(ends, most) {
-        return Checked::Refused(Refusal::RoundEnds);
-    }
-    Checked::Passed
+    1 <= count && count <= 64
 }
 
-// Question 12, for so many directions: there are places for the steps, the words and the answers of all.
-pub fn ask_room(count: usize, steps: usize, words: usize, answers: usize) -> Checked
+// How many step places, words and answers are lent.
+pub struct Room {
+    pub steps: usize,
+    pub words: usize,
+    pub answers: usize,
+}
+
+// There are places for all directions.
+fn has_room(count: usize, room: Room) -> bool
     requires { ⌜ count ≤ 64 ⌝ }
-    ensures { λ r. ⌜ CheckedBy (roomRefusal count steps words answers) r ⌝ }
+    ensures { λ r. ⌜ r ≡ leb (32 * count) (room .steps) && leb (256 * count) (room .words) && leb (9 * count) (room .answers) ⌝ }
 {
-    if steps < 32 * count || words < 256 * count || answers < 9 * count {
+    if room.steps < 32 * count {
+        return false;
+    }
+    if room.words < 256 * count {
+        return false;
+    }
+    9 * count <= room.answers
+}
+
+// 26 of ends that mark a list of `most` words, then 12.
+pub fn ask(ends: &[usize], most: usize, room: Room) -> Checked
+    ensures { λ r. ⌜ CheckedBy (behindBook most (now (ends .entry)) room) r ⌝ }
+{
+    if !is_count(ends.len()) {
+        return Checked::Refused(Refusal::RoundEnds);
+    }
+    if !are_rising(ends, most) {
+        return Checked::Refused(Refusal::RoundEnds);
+    }
+    if !has_room(ends.len(), room) {
         return Checked::Refused(Refusal::StepsOrWordsTooShort);
     }
     Checked::Passed
