@@ -18,8 +18,8 @@ use Rattle.decoder.specs.Decodes.{unlessRefused, PlainDecodes}
 use Rattle.decoder.proofs.Replies.{plain-decoded, plain-words, plain-count}
 use Rattle.answer.specs.declared.PlainReply.{PlainReply}
 use Rattle.lists.specs.Report.{Countable}
-use Rattle.lists.specs.Steps.{numbersOf, decodedNumbers}
-use Rattle.ffi.specs.Calls.{zeroOrRefusal, decodeReport, lentNumbers, DecodesNumbers}
+use Rattle.lists.specs.Steps.{numbersOf, lentNumbers, decodedNumbers}
+use Rattle.ffi.specs.Calls.{zeroOrRefusal, decodeReport, DecodesNumbers}
 use Rattle.lists.proofs.Threes.{how-many}
 
 written : (k : ℕ) (steps : List Step) (old : List ℕ) → writtenOver (numbersOf (unlessRefused k steps)) old ≡ writtenIf k (numbersOf steps) old

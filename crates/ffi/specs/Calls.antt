@@ -3,11 +3,10 @@ use Prim.Native.Nat.{ℕ}
 use mathlib.Core.Path.{_≡_}
 use mathlib.Core.List.{List, []}
 use lib.IntN.{ℤ, pos, negℤ}
-use lib.ListN.{length}
-use Rattle.meaning.specs.Reply.{Reply, refused, done, filledWith, totalsNumbers, countsOf, Lent, decode, decodedWords, decodedStore}
+use Rattle.meaning.specs.Reply.{Reply, refused, done, filledWith, totalsNumbers, countsOf, decode, decodedWords, decodedStore}
 use Rattle.meaning.specs.declared.Totals.{Totals}
 use Rattle.meaning.specs.declared.Answer.{Answer}
-use Rattle.lists.specs.Steps.{recordsIn, decodedNumbers}
+use Rattle.lists.specs.Steps.{lentNumbers, decodedNumbers}
 
 -- "numbers written, or minus the refusal"
 abbrev pub countOrRefusal : Reply ℕ → ℤ
@@ -28,10 +27,6 @@ scoreReport (refused k) = []
 abbrev pub decodeReport : Reply Answer → List ℤ
 decodeReport (done a) = countsOf a
 decodeReport (refused k) = []
-
--- what is lent: each whole step is a place of the step list
-abbrev pub lentNumbers : List ℕ → List ℕ → List ℤ → Lent
-lentNumbers steps words store = record { steps = length (recordsIn steps); words = length words; store = length store }
 
 -- the whole of a decode into plain numbers: its answer, and each lent list before (₀) and after (₁). "A report list gets as many of
 -- its values as it has places"

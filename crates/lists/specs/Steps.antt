@@ -21,6 +21,10 @@ abbrev pub numbersOf : List Step → List ℕ
 numbersOf [] = []
 numbersOf (step ∷ steps) = step .first ∷ step .last ∷ step .entry ∷ numbersOf steps
 
+-- what is lent: each whole step is a place of the step list
+abbrev pub lentNumbers : List ℕ → List ℕ → List ℤ → Lent
+lentNumbers steps words store = record { steps = length (recordsIn steps); words = length words; store = length store }
+
 -- the steps as numbers, at the beginning of those that are lent
 unfoldable pub decodedNumbers : List ℤ → List ℕ → ℤ → Lent → List ℕ → List ℕ
 decodedNumbers loaded direction width lent numbers =

@@ -4,12 +4,17 @@ use mathlib.Core.Path.{_≡_}
 use mathlib.Core.Bool.{Bool, _&&_}
 use mathlib.Core.List.{List}
 use lib.Dec.{leb}
+use lib.IntN.{ℤ}
 use lib.ListN.{length}
 use Rattle.laws.specs.Lists.{all}
 use Rattle.meaning.specs.Questions.{_unless_, _orelse_, within, number}
+use Rattle.meaning.specs.Book.{bookRefusal}
 use Rattle.meaning.specs.Round.{areRising}
 use Rattle.meaning.specs.declared.Checked.{Checked}
 use Rattle.meaning.specs.declared.Checked.the-variants.{Passed, Refused}
+use Rattle.opening.specs.Opening.{Open}
+use Rattle.opening.specs.declared.Opened.{Opened}
+use Rattle.opening.specs.declared.Opened.the-variants.{Book as Opens, Refused as BookRefused}
 use Rattle.rounds.specs.declared.ask.Room.{Room}
 
 -- each end is above the one before and not past a list of `most` words
@@ -26,3 +31,8 @@ behindBook most ends room =
 abbrev pub CheckedBy : ℕ → Checked → Type 0
 CheckedBy k Passed = k ≡ 0
 CheckedBy k (Refused refusal) = k ≡ number refusal
+
+-- what is replied to all questions of a round: where they pass, the book is open
+abbrev pub OpenedFor : List ℤ → List ℕ → ℕ → Room → List ℕ → Opened → Type 0
+OpenedFor loaded ends most room index (Opens counts) = Open loaded index counts × (behindBook most ends room ≡ 0)
+OpenedFor loaded ends most room index (BookRefused refusal) = (bookRefusal loaded orelse behindBook most ends room) ≡ number refusal

@@ -1,10 +1,14 @@
 // What a direction of a round is answered.
+use answer::PlainReply;
 use meaning::Decoded;
 ghost use mathlib.Core.Path.{_≡_};
-ghost use mathlib.Core.Bool.{_&&_};
-ghost use lib.Dec.{leb};
+ghost use mathlib.Core.Bool.{_||_};
+ghost use Prim.Native.Nat.{_*_, _≤_};
+ghost use lib.ListN.{length};
 ghost use Rattle.meaning.specs.Questions.{isOfSearch};
-ghost use Rattle.meaning.specs.Reply.{decodedReply};
+ghost use Rattle.meaning.specs.Reply.{decodedReply, writtenOver};
+ghost use Rattle.records.specs.Plain.{stepsOf};
+ghost use Rattle.lists.specs.Steps.{numbersOf};
 ghost use Rattle.meaning.specs.Round.{answerNumbers};
 ghost use Rattle.rounds.specs.Told.{AllCountable, isSearched};
 
@@ -40,4 +44,21 @@ pub fn is_searched(reply: Decoded) -> bool
         Decoded::Done(a) => true,
         Decoded::Refused(refusal) => is_of_search(meaning::number_of(refusal)),
     }
+}
+
+// What a direction is told, on its own places: the steps at the beginning of its numbers for steps, and its nine numbers. Returned is whether the store is all zero
+// by now: it was, or the direction was searched.
+pub fn put_told(steps: &mut [u16], answers: &mut [i64], told: PlainReply, swept: bool) -> bool
+    requires { ⌜ (3 * told .plain .count ≤ length (now steps)) × (told .plain .count ≤ 33) ⌝ }
+    requires { ⌜ length (now answers) ≡ 9 ⌝ }
+    requires { ⌜ AllCountable (told .reply) ⌝ }
+    ensures { λ _. ⌜ now (steps .exit) ≡ writtenOver (numbersOf (stepsOf (told .plain))) (now (steps .entry)) ⌝ }
+    ensures { λ _. ⌜ now (answers .exit) ≡ answerNumbers (decodedReply (told .reply)) ⌝ }
+    ensures { λ r. ⌜ r ≡ swept || isSearched (decodedReply (told .reply)) ⌝ }
+{
+    let reply = told.reply;
+    lists::steps::put_all(steps, told.plain);
+    let numbers = numbers_of(reply);
+    lists::report::fill(answers, &numbers);
+    swept || is_searched(reply)
 }
