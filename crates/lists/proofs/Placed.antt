@@ -37,7 +37,7 @@ drop-zeros zero n = let e : n - 0 ≡ n = omega arith in rw e refl
 drop-zeros (suc j) zero = let e : 0 - suc j ≡ 0 = omega arith in rw e refl
 drop-zeros (suc j) (suc n) = let e : suc n - suc j ≡ n - j = omega arith in rw e (drop-zeros j n)
 
-take-zeros : (j n : ℕ) → j ≤ n → take {A = ℕ} j (replicate n 0) ≡ replicate j 0
+pub take-zeros : (j n : ℕ) → j ≤ n → take {A = ℕ} j (replicate n 0) ≡ replicate j 0
 take-zeros zero n h = refl
 take-zeros (suc j) zero h = absurd (omega arith)
 take-zeros (suc j) (suc n) h = ap (λ (l : List ℕ). 0 ∷ l) (take-zeros j n (omega arith))

@@ -13,6 +13,7 @@ ghost use Rattle.book.specs.Entries.{indexSize};
 ghost use Rattle.rounds.specs.Asked.{OpenedFor};
 
 pub mod ask;
+pub mod rows;
 pub mod tell;
 
 // All questions of a round: the book's, 26 and 12. Where they pass, the book is open.
