@@ -22,7 +22,7 @@ use Rattle.lists.proofs.Rounds.{numbers-keep}
 use Rattle.clearing.specs.Swept.{Swept}
 use Rattle.decoder.specs.Decodes.{unlessRefused, PlainDecodes}
 use Rattle.answer.specs.declared.PlainReply.{PlainReply}
-use Rattle.rounds.specs.Told.{isSearched}
+use Rattle.round_parts.specs.Told.{isSearched}
 
 -- ════ what one direction leaves
 

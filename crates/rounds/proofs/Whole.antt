@@ -7,9 +7,8 @@ use mathlib.Core.List.{List, []}
 use borrow.Author.Tests.{leb-true}
 use lib.Dec.{leb}
 use lib.IntN.{ℤ}
-use lib.ListN.{length, getD, take, drop}
+use lib.ListN.{length, getD, take, drop, length-drop}
 use lib.Seq.{length-take-le}
-use borrow.Rule.Slice.PartMut.{midOf, putMid, mid-len}
 use Rattle.laws.specs.Lists.{all}
 use Rattle.laws.proofs.Lists.{all-at}
 use Rattle.laws.proofs.Tests.{both, between}
@@ -27,13 +26,13 @@ use Rattle.records.specs.Plain.{stepsOf}
 use Rattle.lists.specs.Steps.{recordsIn, numbersOf, asNumbers, lentNumbers}
 use Rattle.lists.proofs.Threes.{how-many}
 use Rattle.lists.proofs.Rounds.{numbers-keep}
-use Rattle.decoder.specs.Decodes.{PlainDecodes}
 use Rattle.answer.specs.declared.PlainReply.{PlainReply}
-use Rattle.rounds.specs.Told.{isSearched}
+use Rattle.round_parts.specs.Told.{isSearched}
+use Rattle.round_parts.specs.Places.{placesAt, putAt, DecodesAt}
 use Rattle.opening.specs.Opening.{Open}
 use Rattle.opening.specs.declared.Counts.{Counts}
-use Rattle.rounds.specs.Asked.{areRisingTo, behindBook}
-use Rattle.rounds.specs.declared.ask.Room.{Room}
+use Rattle.round_parts.specs.Asked.{areRisingTo, behindBook}
+use Rattle.round_parts.specs.declared.ask.Room.{Room}
 use Rattle.rounds.proofs.Going.{Roomy, Going, direction-is, going-on, eachSteps, eachWords, eachAnswer}
 
 grouped : (a b c : Bool) → (a && b) && c ≡ a && (b && c)
@@ -127,26 +126,17 @@ module _ (loaded : List ℤ) (directions ends : List ℕ) (steps₀ words₀ : L
         pub answers-inside : 9 * k + 9 ≤ length answers
         answers-inside = let r = R .answers-room in let l = answers-long in omega arith
 
-        -- so many are lent
-        pub steps-mid : length (midOf (96 * k) (96 * k + 96 - 96 * k) steps) ≡ 96
-        steps-mid = mid-len (96 * k) (96 * k + 96) steps steps-inside ∙ (let n : 96 * k + 96 - 96 * k ≡ 96 = omega arith in n)
+        pub words-many : length (placesAt 256 k words) ≡ 256
+        words-many = length-take-le 256 (drop (256 * k) words) (let w = words-inside in let d = length-drop (256 * k) words in omega arith)
 
-        pub words-mid : length (midOf (256 * k) (256 * k + 256 - 256 * k) words) ≡ 256
-        words-mid = mid-len (256 * k) (256 * k + 256) words words-inside ∙ (let n : 256 * k + 256 - 256 * k ≡ 256 = omega arith in n)
-
-        pub answers-mid : length (midOf (9 * k) (9 * k + 9 - 9 * k) answers) ≡ 9
-        answers-mid = mid-len (9 * k) (9 * k + 9) answers answers-inside ∙ (let n : 9 * k + 9 - 9 * k ≡ 9 = omega arith in n)
-
-        pub going-next : (told : PlainReply) (words′ : List ℕ) (store′ : List ℤ)
-            → PlainDecodes loaded (take (getD ends k 0 - from) (drop from directions)) width 32 (midOf (256 * k) (256 * k + 256 - 256 * k) words) words′ store store′ told
-            → (swept′ : Bool) (steps′ : List ℕ) (answers′ : List ℤ) → steps′ ≡ writtenOver (numbersOf (stepsOf (told .plain))) (midOf (96 * k) (96 * k + 96 - 96 * k) steps)
-            → answers′ ≡ answerNumbers (decodedReply (told .reply)) → swept′ ≡ swept || isSearched (decodedReply (told .reply))
-            → Going loaded directions ends width steps₀ words₀ store₀ answers₀ (k + 1) (getD ends k 0) swept′
-            (putMid (96 * k) (96 * k + 96 - 96 * k) steps steps′) (putMid (256 * k) (256 * k + 256 - 256 * k) words words′) store′ (putMid (9 * k) (9 * k + 9 - 9 * k) answers answers′)
-        going-next told words′ store′ D swept′ steps′ answers′ s a w =
+        pub going-next : (told : PlainReply) (words₁ : List ℕ) (store₁ : List ℤ) → DecodesAt k loaded (take (getD ends k 0 - from) (drop from directions)) width words words₁ store store₁ told
+            → (swept₁ : Bool) (steps₁ : List ℕ) (answers₁ : List ℤ) → steps₁ ≡ putAt 96 k steps (writtenOver (numbersOf (stepsOf (told .plain))) (placesAt 96 k steps))
+            → answers₁ ≡ putAt 9 k answers (answerNumbers (decodedReply (told .reply))) → swept₁ ≡ swept || isSearched (decodedReply (told .reply))
+            → Going loaded directions ends width steps₀ words₀ store₀ answers₀ (k + 1) (getD ends k 0) swept₁ steps₁ words₁ store₁ answers₁
+        going-next told words₁ store₁ D swept₁ steps₁ answers₁ s a w =
             let d : take (getD ends k 0 - from) (drop from directions) ≡ getD (directionsOf directions ends) k [] = direction-is loaded directions ends width steps₀ words₀ store₀ answers₀ (roomy R) G h (getD ends k 0) refl in
-            let n96 : 96 * k + 96 - 96 * k ≡ 96 = omega arith in let n256 : 256 * k + 256 - 256 * k ≡ 256 = omega arith in let n9 : 9 * k + 9 - 9 * k ≡ 9 = omega arith in
-            rw (n96, n256, n9) (going-on loaded directions ends width steps₀ words₀ store₀ answers₀ (roomy R) G h told words′ store′ (rw (d, n256) at D) (getD ends k 0) swept′ steps′ answers′ refl (rw n96 at s) a w)
+            let on = going-on loaded directions ends width steps₀ words₀ store₀ answers₀ (roomy R) G h told (D .places) store₁ (rw d at (D .decodes)) (getD ends k 0) swept₁ _ _ refl refl refl w in
+            rw (s, D .words-are, a) on
 
     abbrev pub Done : List ℕ → List ℕ → List ℤ → List ℤ → Type 0
     Done steps₁ words₁ store₁ answers₁ =

@@ -3,38 +3,16 @@ use book::entries::INDEX_SIZE;
 use meaning::Checked;
 use opening::Opened;
 use plain::Turn;
+use round_parts::ask;
+use round_parts::ask::Room;
+use round_parts::at;
 ghost use mathlib.Core.Path.{_≡_};
 ghost use lib.ListN.{length};
 ghost use Rattle.meaning.specs.Reply.{checkedReply};
 ghost use Rattle.meaning.specs.Round.{decodeRound, roundRefusal, directionsOf, RoundLists};
-ghost use Prim.Native.Nat.{_≤_};
 ghost use Rattle.lists.specs.Steps.{asNumbers, lentNumbers};
-ghost use Rattle.book.specs.Entries.{indexSize};
-ghost use Rattle.rounds.specs.Asked.{OpenedFor};
 
-pub mod ask;
 pub mod rows;
-pub mod tell;
-
-// All questions of a round: the book's, 26 and 12. Where they pass, the book is open.
-fn open_round(
-    book: &[i32],
-    index: &mut [u16],
-    ends: &[usize],
-    most: usize,
-    room: ask::Room,
-) -> Opened
-    requires { ⌜ indexSize ≤ length (now index) ⌝ }
-    ensures { λ r. ⌜ OpenedFor (now (book .entry)) (now (ends .entry)) most room (now (index .exit)) r ⌝ }
-{
-    match opening::open_book(book, index) {
-        Opened::Refused(refusal) => Opened::Refused(refusal),
-        Opened::Book(counts) => match ask::ask(ends, most, room) {
-            Checked::Passed => Opened::Book(counts),
-            Checked::Refused(refusal) => Opened::Refused(refusal),
-        },
-    }
-}
 
 // Decodes the directions that the ends mark in the list, one after the other: direction k on the 96 numbers for steps and the 256 words that follow those
 // of direction k - 1, and its answer in the next nine numbers. The store is gone through once, before the first search. A refused round changes no list.
@@ -53,12 +31,12 @@ pub fn decode_round(
 {
     let mut index = [0u16; INDEX_SIZE];
     let mut options = [0u16; options::OPTIONS_SIZE];
-    let room = ask::Room {
+    let room = Room {
         steps: steps.len() / 3,
         words: words.len(),
         answers: answers.len(),
     };
-    let counts = match open_round(book, &mut index, ends, directions.len(), room) {
+    let counts = match ask::open_round(book, &mut index, ends, directions.len(), room) {
         Opened::Book(counts) => counts,
         Opened::Refused(refusal) => return Checked::Refused(refusal),
     };
@@ -73,21 +51,17 @@ pub fn decode_round(
             room: 32,
             swept,
         };
-        let told = plain::decode_open(
+        let told = at::decode_at(
             book,
             &directions[from..end],
             &index,
             &mut options,
             turn,
-            &mut words[256 * k..256 * k + 256],
+            words,
             store,
+            k,
         );
-        swept = tell::put_told(
-            &mut steps[96 * k..96 * k + 96],
-            &mut answers[9 * k..9 * k + 9],
-            told,
-            swept,
-        );
+        swept = at::put_at(steps, answers, told, swept, k);
         from = end;
         k += 1;
     }

@@ -4,6 +4,7 @@
 use crate::edits::EditCase;
 use crate::gen::{self, DecodeCase, Rng, Shape};
 use crate::imports::ImportCase;
+use crate::round_cases::RoundCase;
 use crate::{plain, *};
 use std::collections::BTreeMap;
 
@@ -92,6 +93,10 @@ pub fn run(seed: u64, count: usize) -> Tally {
         if round % 100 == 50 {
             rounds::full_book_edits(&mut rng, &shape, &mut tally);
             rounds::full_book_imports(&mut rng, &shape, &mut tally);
+            rounds::full_books_together(&mut rng, &shape, &mut tally);
+        }
+        if round % 64 == 5 || round % 64 == 40 {
+            rounds::directions_together(&mut rng, &shape, &mut tally);
         }
         if round % 40 == 0 {
             let shape = Shape::middle(&mut rng);
@@ -550,7 +555,7 @@ fn decoded_plainly(case: &DecodeCase) -> Result<Answer, u8> {
     result
 }
 
-/// The inputs of a round of edits, each held to the plain walks.
+/// The inputs of rounds.rs, each held to the plain walks.
 impl rounds::Calls for Tally {
     fn read_book(&mut self, _: &mut Rng, text: &[u8], places: usize) {
         let result = read_book(text, places);
@@ -580,6 +585,19 @@ impl rounds::Calls for Tally {
     }
     fn import(&mut self, _: &mut Rng, case: &ImportCase) {
         self.reply("import_arpa", &case.answer().0);
+    }
+    fn round(&mut self, rng: &mut Rng, case: &RoundCase) {
+        let before = case.lists(|_| rng.draw());
+        let (reply, after) = case.answer(&before);
+        self.reply("decode_round", &reply);
+        if reply.is_ok() {
+            for (k, alone) in case.alone().iter().enumerate() {
+                let result = decoded_plainly(alone);
+                let code = *result.as_ref().err().unwrap_or(&0);
+                assert_eq!(after.answers[9 * k], code as i64, "{case:?}");
+                self.reply(rounds::DIRECTION_OF_A_ROUND, &result);
+            }
+        }
     }
     fn same_book(&mut self, _: &mut Rng, text: &[u8], case: &DecodeCase, _: &[Step]) {
         let fresh = read_book(text, case.book.len());

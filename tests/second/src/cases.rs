@@ -6,6 +6,8 @@
 use crate::edits::{Edit, EditCase};
 use crate::gen::DecodeCase;
 use crate::imports::ImportCase;
+use crate::round::Lists;
+use crate::round_cases::RoundCase;
 use crate::ways::Ways;
 use crate::{plain, Answer, Scoring, Step, Supplied};
 use std::fmt::{Display, Write};
@@ -21,6 +23,13 @@ pub const READ: usize = 41_000;
 pub const WORDS: usize = 2_000;
 pub const STORE: usize = 33_000;
 pub const STEPS: usize = 1_100;
+/// The same for a round: words of its directions, ends, places for steps as numbers and as records, for words and for answers.
+pub const ROUND: usize = 2_600;
+pub const ENDS: usize = 70;
+pub const ROUND_STEPS: usize = 6_400;
+pub const ROUND_RECORDS: usize = 2_100;
+pub const ROUND_WORDS: usize = 16_700;
+pub const ANSWERS: usize = 600;
 /// What the rendering program takes, and one byte more; the bytes that it may print.
 pub const RENDERED: (usize, usize, usize) = (8_193, 513, 4_096);
 
@@ -92,6 +101,22 @@ impl<'a> Case<'a> {
             used: self.number(),
         }
     }
+    /// A round; where its steps are records they are counted as such.
+    fn round(&mut self, records: bool) -> RoundCase {
+        RoundCase {
+            book: self.list(BOOK),
+            directions: self.list(ROUND),
+            ends: self.list(ENDS),
+            width: self.number(),
+            steps_len: match records {
+                true => 3 * self.count(ROUND_RECORDS),
+                false => self.count(ROUND_STEPS),
+            },
+            words_len: self.count(ROUND_WORDS),
+            store_len: self.count(STORE),
+            answers_len: self.count(ANSWERS),
+        }
+    }
     fn edit(&mut self, edit: impl Fn(&mut Self) -> Edit) -> EditCase {
         EditCase {
             list: self.list(READ),
@@ -113,9 +138,8 @@ fn step_text<T: Display>(first: T, last: T, entry: T) -> String {
     format!("{first}.{last}.{entry}")
 }
 
-/// The same of steps, of three numbers each.
-fn garbage_steps(fill: u16) -> Vec<String> {
-    let numbers = garbage(fill, 3 * STEPS);
+/// Numbers as steps, of three each.
+fn step_texts(numbers: &[i64]) -> Vec<String> {
     let steps = numbers.chunks(3);
     steps.map(|s| step_text(s[0], s[1], s[2])).collect()
 }
@@ -159,6 +183,8 @@ pub struct Said {
     pub shared: bool,
     /// How the target words of a successful scoring or decode were scored, to which its four counts are held.
     pub ways: Ways,
+    /// What each direction of a round was answered.
+    pub inside: Vec<u8>,
 }
 
 fn said<T>(call: &'static str, reply: &Result<T, u8>, text: String) -> Said {
@@ -169,6 +195,7 @@ fn said<T>(call: &'static str, reply: &Result<T, u8>, text: String) -> Said {
         text,
         shared: false,
         ways: Ways::default(),
+        inside: Vec::new(),
     }
 }
 
@@ -256,7 +283,7 @@ fn decoded(case: &DecodeCase, fill: u16, reply: &Result<Answer, u8>) -> Said {
     let steps = steps.iter().map(|&(f, l, e)| step_text(f, l, e));
     let words = words.iter().map(|&w| w as i64);
     let (no_steps, no_words, full) = (
-        garbage_steps(fill),
+        step_texts(&garbage(fill, 3 * STEPS)),
         garbage(fill, WORDS),
         garbage(fill, STORE),
     );
@@ -273,6 +300,49 @@ fn decoded(case: &DecodeCase, fill: u16, reply: &Result<Answer, u8>) -> Said {
         shared,
         ways,
         ..said("decode", reply, text)
+    }
+}
+
+/// A list that was lent the first places of one full of garbage, whole before the call and afterwards.
+fn whole<T: Copy + Into<i64>>(after: &[T], fill: u16, places: usize) -> (Vec<i64>, Vec<i64>) {
+    let before = garbage(fill, places);
+    let after = over(after.iter().map(|&z| z.into()), &before);
+    (before, after)
+}
+
+/// A round, its steps as numbers or as records.
+fn round(case: &mut Case, records: bool) -> Said {
+    let asked = case.round(records);
+    let fill: u16 = case.number();
+    let lent_lists = asked.lists(|k| fill.wrapping_add(k as u16) as u64);
+    let (reply, after) = asked.answer(&lent_lists);
+    let Lists {
+        steps,
+        words,
+        store,
+        answers,
+    } = &after;
+    let head = reply.map_or_else(|k| format!("R,{k}"), |()| "passed".into());
+    let numbers = |name: &str, (before, after): (Vec<i64>, Vec<i64>)| lent(name, &after, &before);
+    let (call, steps) = match records {
+        true => {
+            let (before, after) = whole(steps, fill, 3 * ROUND_RECORDS);
+            let line = lent("steps", &step_texts(&after), &step_texts(&before));
+            ("decode_round with records", line)
+        }
+        false => {
+            let whole = whole(steps, fill, ROUND_STEPS);
+            ("decode_round", numbers("steps", whole))
+        }
+    };
+    let text = head
+        + &steps
+        + &numbers("words", whole(words, fill, ROUND_WORDS))
+        + &numbers("store", whole(store, fill, STORE))
+        + &numbers("answers", whole(answers, fill, ANSWERS));
+    Said {
+        inside: asked.inside(reply, &after),
+        ..said(call, &reply, text)
     }
 }
 
@@ -354,6 +424,8 @@ fn answer(case: &mut Case) -> Said {
             let asked = case.import();
             edited("import_arpa", &asked.list, asked.answer(), case.number())
         }
+        12 => round(case, false),
+        13 => round(case, true),
         k => panic!("call {k}"),
     }
 }
@@ -362,6 +434,16 @@ fn answer(case: &mut Case) -> Said {
 pub fn decode_of(line: &str) -> Option<DecodeCase> {
     let mut case = Case(line.split_once('|')?.1.split_whitespace());
     (case.number::<u8>() == 6).then(|| case.decode())
+}
+
+/// The round that a line asks for, if it is one.
+pub fn round_of(line: &str) -> Option<RoundCase> {
+    let mut case = Case(line.split_once('|')?.1.split_whitespace());
+    match case.number::<u8>() {
+        12 => Some(case.round(false)),
+        13 => Some(case.round(true)),
+        _ => None,
+    }
 }
 
 /// What the second decoder says to a line, with the line's label.

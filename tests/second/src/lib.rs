@@ -1,4 +1,4 @@
-//! A second decoder, written from the papers alone (01-scope.md, tickets 1 to 6 of
+//! A second decoder, written from the papers alone (01-scope.md, tickets 1 to 7 of
 //! 02-change-requests.md, and Collins' notes 000, 001, 002). Standard library only. Refusals are the
 //! question numbers of 01 and 02.
 
@@ -12,12 +12,16 @@ pub mod gen;
 pub mod imports;
 pub mod plain;
 pub mod plain_arpa;
+pub mod plain_round;
 pub mod random_cases;
+pub mod round;
+pub mod round_cases;
 pub mod rounds;
 pub mod ways;
 
 pub use arpa::import_arpa;
 pub use plain::all_derivations;
+pub use round::decode_round;
 
 /// A step: first, last, entry; all counted from 1.
 pub type Step = (u16, u16, u16);

@@ -1,13 +1,18 @@
 //! Random inputs as cases for crates/try_cases, and what that program prints for them, held to the second decoder word for word.
 
 use crate::cases::{self, BOOK, DIRECTION, LINE, READ, RENDERED, STEPS, STORE, TEXT, WORDS};
+use crate::cases::{ANSWERS, ENDS, ROUND, ROUND_RECORDS, ROUND_STEPS, ROUND_WORDS};
 use crate::edits::{Edit, EditCase};
 use crate::gen::{self, DecodeCase, Rng, Shape};
 use crate::imports::ImportCase;
+use crate::round_cases::RoundCase;
 use crate::rounds::{self, Calls, Reached, Tally};
 use crate::ways::Ways;
 use crate::Step;
 use std::fmt::Display;
+
+/// Are rounds with step records, call 13, asked too?
+pub const WITH_ROUND_RECORDS: bool = false;
 
 /// The lines made so far, and how many inputs the program has no room for: those are left out.
 #[derive(Default)]
@@ -42,6 +47,24 @@ impl Lines {
         let sizes = [(book.len(), RENDERED.0), (direction.len(), RENDERED.1)];
         let numbers = format!("8 {} {} {}", list(book), list(direction), fill(rng));
         self.add(&sizes, numbers);
+    }
+
+    /// A round, with places for so many steps: numbers (call 12) or records (call 13).
+    fn add_round(&mut self, rng: &mut Rng, case: &RoundCase, call: u8, steps: (usize, usize)) {
+        let sizes = [
+            (case.book.len(), BOOK),
+            (case.directions.len(), ROUND),
+            (case.ends.len(), ENDS),
+            steps,
+            (case.words_len, ROUND_WORDS),
+            (case.store_len, STORE),
+            (case.answers_len, ANSWERS),
+        ];
+        let (book, directions, ends) = (list(&case.book), list(&case.directions), list(&case.ends));
+        let (words, store, answers) = (case.words_len, case.store_len, case.answers_len);
+        let lent = format!("{} {words} {store} {answers}", steps.0);
+        let asked = format!("{call} {book} {directions} {ends} {}", case.width);
+        self.add(&sizes, format!("{asked} {lent} {}", fill(rng)));
     }
 }
 
@@ -117,6 +140,12 @@ impl Calls for Lines {
         let lent = format!("{} {}", list(&case.list), case.used);
         self.add(&sizes, format!("11 {texts} {lent} {}", fill(rng)));
     }
+    fn round(&mut self, rng: &mut Rng, case: &RoundCase) {
+        self.add_round(rng, case, 12, (case.steps_len, ROUND_STEPS));
+        if WITH_ROUND_RECORDS {
+            self.add_round(rng, case, 13, (case.steps_len / 3, ROUND_RECORDS));
+        }
+    }
     /// A reading of the text, held to the edited book; what else is asked of that book has lines of its own.
     fn same_book(&mut self, rng: &mut Rng, text: &[u8], case: &DecodeCase, _: &[Step]) {
         let (size, book) = (case.book.len(), list(&case.book));
@@ -177,6 +206,10 @@ pub fn made(seed: u64, inputs: usize) -> Lines {
         if k % 32 == 17 {
             rounds::full_book_edits(&mut rng, &shape, &mut lines);
             rounds::full_book_imports(&mut rng, &shape, &mut lines);
+            rounds::full_books_together(&mut rng, &shape, &mut lines);
+        }
+        if k % 32 == 12 || k % 32 == 23 {
+            rounds::directions_together(&mut rng, &shape, &mut lines);
         }
         k += 1;
     }
@@ -192,12 +225,21 @@ const WITH_STEPS: [Reached; 2] = [
     ),
 ];
 
-/// What was met too seldom, in a sentence: an answer of the calls with step records, of the edits or of the import, fewer than `least`
-/// times, or a way in which a triple is scored, or a mixture of suppliers.
-fn seldom(tally: &Tally, ways: &Ways, least: u64) -> Result<(), String> {
-    for reached in [&WITH_STEPS[..], &rounds::EDITS, &rounds::IMPORTS] {
+/// What was met too seldom, in a sentence: an answer of the calls with step records, of the edits, of the import, of a round or inside one,
+/// fewer than `least` times, or a way in which a triple is scored, or a mixture of suppliers.
+fn seldom(tally: &Tally, inside: &Tally, ways: &Ways, least: u64) -> Result<(), String> {
+    let with_records = [("decode_round with records", rounds::TOGETHER[0].1)];
+    for reached in [
+        &WITH_STEPS[..],
+        &rounds::EDITS,
+        &rounds::IMPORTS,
+        &rounds::TOGETHER,
+        &with_records[..WITH_ROUND_RECORDS as usize],
+    ] {
         tally.seldom(reached, least).map_or(Ok(()), Err)?;
     }
+    let answers = inside.seldom(&rounds::INSIDE, least);
+    answers.map_or(Ok(()), Err)?;
     match ways.seldom() {
         Some(said) if least > 0 => Err(said),
         _ => Ok(()),
@@ -208,6 +250,7 @@ fn seldom(tally: &Tally, ways: &Ways, least: u64) -> Result<(), String> {
 /// that differs, or something that was met too seldom.
 pub fn hold(lines: &str, printed: &str, least: u64) -> Result<(), String> {
     let (mut tally, mut shared, mut ways) = (Tally::default(), 0, Ways::default());
+    let mut inside = Tally::default();
     let (asked, given) = (lines.lines().count(), printed.lines().count());
     if asked != given {
         return Err(format!("{asked} cases, but {given} lines printed"));
@@ -223,11 +266,15 @@ pub fn hold(lines: &str, printed: &str, least: u64) -> Result<(), String> {
         tally.count(said.call, said.code);
         shared += said.shared as u64;
         ways.add(said.ways);
+        for code in said.inside {
+            inside.count(rounds::DIRECTION_OF_A_ROUND, code);
+        }
     }
     tally.print();
+    inside.print();
     println!("decodes where several derivations have the top score: {shared} or more");
     ways.print();
-    seldom(&tally, &ways, least)?;
+    seldom(&tally, &inside, &ways, least)?;
     println!("{asked} cases, every line the second decoder's");
     Ok(())
 }

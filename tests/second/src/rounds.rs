@@ -3,6 +3,8 @@
 use crate::edits::{self, EditCase};
 use crate::gen::{self, DecodeCase, Rng, Shape};
 use crate::imports::{self, Flaw, ImportCase};
+use crate::round::Lists;
+use crate::round_cases::{self, RoundCase};
 use crate::Step;
 use std::collections::BTreeMap;
 
@@ -15,6 +17,7 @@ pub trait Calls {
     fn decode(&mut self, rng: &mut Rng, case: &DecodeCase);
     fn edit(&mut self, rng: &mut Rng, case: &EditCase);
     fn import(&mut self, rng: &mut Rng, case: &ImportCase);
+    fn round(&mut self, rng: &mut Rng, case: &RoundCase);
     /// "A decode after any edits equals a decode of the edited book read afresh": the case has the edited book, and the text is what that
     /// is to be. A scoring of the steps and the target words are asked too.
     fn same_book(&mut self, rng: &mut Rng, text: &[u8], case: &DecodeCase, steps: &[Step]);
@@ -84,6 +87,11 @@ pub const EDITS: [Reached; 2] = [
 /// Those of the import.
 pub const IMPORTS: [Reached; 1] = [("import_arpa", &[0, 2, 3, 4, 5, 6, 7, 20, 21, 23, 24, 25])];
 
+/// Those of a round's directions together, and those of the directions in it.
+pub const TOGETHER: [Reached; 1] = [("decode_round", &[0, 2, 3, 4, 5, 6, 12, 20, 21, 26])];
+pub const INSIDE: [Reached; 1] = [(DIRECTION_OF_A_ROUND, &[0, 9, 10, 11, 13, 14, 15])];
+pub const DIRECTION_OF_A_ROUND: &str = "a direction of a round";
+
 /// The shape of round k's books and directions.
 pub fn shape(rng: &mut Rng, k: usize) -> Shape {
     match k % 20 {
@@ -106,12 +114,16 @@ pub fn round(rng: &mut Rng, k: usize, calls: &mut dyn Calls) {
         editing_round(rng, &shape, calls);
         edits_in_turn(rng, &shape, calls);
     }
-    if k % 40 == 20 {
+    if k % 32 == 20 {
         full_book_edits(rng, &shape, calls);
         full_book_imports(rng, &shape, calls);
+        full_books_together(rng, &shape, calls);
     }
     if k % 4 == 1 {
         importing_round(rng, &shape, calls);
+    }
+    if k % 16 == 3 || k % 16 == 10 || k % 60 == 0 {
+        directions_together(rng, &shape, calls);
     }
     scoring_round(rng, &shape, calls);
     decoding_round(rng, &shape, calls);
@@ -365,4 +377,44 @@ fn as_the_file(
     if let Ok(answer) = asked.answer() {
         case.hold_answer(book, &answer);
     }
+}
+
+/// Directions together: good rounds, the same with the store just enough for each of them and just not, rounds that 26 and 12 refuse, and
+/// rounds with books that are broken.
+pub fn directions_together(rng: &mut Rng, shape: &Shape, calls: &mut dyn Calls) {
+    use round_cases::Flaw::*;
+    for flaw in [None, None, None, Ends, Ends, Short] {
+        let mut case = round_cases::with_flaw(rng, shape, flaw);
+        calls.round(rng, &case);
+        if flaw == None {
+            if let Some(states) = most_states(&case) {
+                for store_len in [8 * states, 8 * states - 1] {
+                    case.store_len = store_len;
+                    calls.round(rng, &case);
+                }
+            }
+        }
+    }
+    for code in [2, 3, 4, 6, 20, 21] {
+        let case = round_cases::with_flaw(rng, shape, Book(code));
+        calls.round(rng, &case);
+    }
+}
+
+/// Rounds with books that have too many lines.
+pub fn full_books_together(rng: &mut Rng, shape: &Shape, calls: &mut dyn Calls) {
+    for _ in 0..2 {
+        let case = round_cases::with_flaw(rng, shape, round_cases::Flaw::Book(5));
+        calls.round(rng, &case);
+    }
+}
+
+/// The most states that a direction of the round enters, of those that are answered.
+fn most_states(case: &RoundCase) -> Option<usize> {
+    let (_, after): (_, Lists) = case.answer(&case.lists(|_| 0));
+    let states = after.answers.chunks_exact(9).map(|answer| answer[4]);
+    states
+        .max()
+        .filter(|&most| most > 0)
+        .map(|most| most as usize)
 }

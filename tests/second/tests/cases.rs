@@ -1,6 +1,6 @@
 //! Cases as data: how a line is read, and how a printed line is held to the second decoder.
 use second::campaign::check_plainly;
-use second::cases::{decode_of, line_said};
+use second::cases::{decode_of, line_said, round_of};
 use second::random_cases::hold;
 
 /// Entries 1 and 2 are equal, entry 3 scores less, and entry 4 does not fit.
@@ -83,13 +83,17 @@ fn a_line_ends_with_its_numbers() {
     line_said("list|7 1 9 9");
 }
 
-/// The stored cases' decodes, from question 13 on, are answered by the plain sets in the same way; so are their scorings, in `line_said`.
+/// The stored cases' decodes and the directions of their rounds, from question 13 on, are answered by the plain sets in the same way; so
+/// are their scorings, in `line_said`.
 #[test]
 fn the_stored_cases_plainly() {
     let path = concat!(env!("CARGO_MANIFEST_DIR"), "/../../crates/try_cases/stdin");
     let lines = std::fs::read_to_string(path).expect("the cases");
     let mut searched = 0;
-    for case in lines.lines().filter_map(decode_of) {
+    let decodes = lines.lines().filter_map(decode_of);
+    let rounds = lines.lines().filter_map(round_of);
+    let accepted = rounds.filter(|round| round.answer(&round.lists(|_| 7)).0.is_ok());
+    for case in decodes.chain(accepted.flat_map(|round| round.alone())) {
         let result = case.answer();
         if matches!(result, Ok(_) | Err(13..=15)) {
             let (width, store) = (case.width, case.store_len);
@@ -97,5 +101,5 @@ fn the_stored_cases_plainly() {
             searched += 1;
         }
     }
-    assert!(searched > 100, "{searched}");
+    assert!(searched > 400, "{searched}");
 }

@@ -2,7 +2,7 @@
 //! walked, and some forty damaged or bordering ones. The tally is printed with --nocapture.
 
 use second::campaign;
-use second::rounds::{EDITS, IMPORTS};
+use second::rounds::{EDITS, IMPORTS, INSIDE, TOGETHER};
 use second::ways::MIXTURES;
 
 fn rounds(seed: u64) {
@@ -10,7 +10,7 @@ fn rounds(seed: u64) {
     println!("seed {seed}\n{tally}");
     assert!(tally.met["good inputs searched and listed"] >= 12_500);
     let refusals = tally.refusals();
-    for code in 1..=25 {
+    for code in 1..=26 {
         assert!(refusals[&code] > 100, "refusal {code} met too seldom");
     }
     assert!(tally.met["good inputs with several derivations of the top score"] > 1000);
@@ -22,7 +22,7 @@ fn rounds(seed: u64) {
         assert!(tally.met[name] > 100, "{name} met too seldom");
     }
     assert!(tally.met["edited books that are their texts read afresh"] > 5_000);
-    for (call, codes) in EDITS.into_iter().chain(IMPORTS) {
+    for (call, codes) in [&EDITS[..], &IMPORTS, &TOGETHER, &INSIDE].concat() {
         for &code in codes {
             let times = tally.replies[&(call, code)];
             assert!(times > 50, "{call} gave {code} {times} times");

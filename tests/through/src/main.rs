@@ -1,16 +1,19 @@
 //! Random inputs, good and broken, to every call of the library, each answer held to the second decoder's. Every lent list is
 //! full of garbage before a call and is compared whole afterwards. Books are edited up to 20 times in one list, and ARPA texts are imported
-//! to them; what is then asked of them is held to their texts, read afresh by the library. `through SEED INPUTS [LEAST]`: LEAST is how often
-//! each refusal, and each answer of the two edits and of the import, must have been met at the end; where it is not 0, each way in which a
+//! to them; what is then asked of them is held to their texts, read afresh by the library. A round's directions together are held to the
+//! library's own decodes of them one by one, too. `through SEED INPUTS [LEAST]`: LEAST is how often each refusal, and each answer of the two
+//! edits, of the import, of a round and of the directions in one, must have been met at the end; where it is not 0, each way in which a
 //! triple is scored, and each of the four suppliers alone and all of them together in an answer, must have been met too (`second::ways`). It
 //! stops at the first difference.
 
 #[path = "../../../include/phrase.rs"]
 mod library;
+mod together;
 
 use second::edits::{Edit, EditCase};
 use second::gen::{DecodeCase, Rng};
 use second::imports::ImportCase;
+use second::round_cases::RoundCase;
 use second::rounds::{self, Calls, Tally};
 use second::ways::Ways;
 use second::{Step, Supplied};
@@ -122,9 +125,10 @@ fn check_answer(case: &DecodeCase, answer: &second::Answer, before: &Lent, after
     assert_eq!(after.words, over(&answer.words, &before.words), "{case:?}");
 }
 
-/// The library, how often each of its calls gave each answer, and how the target words of its successes were scored.
+/// The library, how often each of its calls gave each answer, how the target words of its successes were scored, and how often the
+/// directions of rounds were given each answer.
 #[derive(Default)]
-struct Library(Tally, Ways);
+struct Library(Tally, Ways, Tally);
 
 impl Calls for Library {
     fn read_book(&mut self, rng: &mut Rng, text: &[u8], places: usize) {
@@ -239,6 +243,13 @@ impl Calls for Library {
         assert_eq!(after, list, "{case:?}");
         self.0.count("import_arpa", expected.err().unwrap_or(0));
     }
+    fn round(&mut self, rng: &mut Rng, case: &RoundCase) {
+        let (code, inside) = together::check(rng, case);
+        self.0.count("decode_round", code);
+        for code in inside {
+            self.2.count(rounds::DIRECTION_OF_A_ROUND, code);
+        }
+    }
     fn same_book(&mut self, rng: &mut Rng, text: &[u8], case: &DecodeCase, steps: &[Step]) {
         let (edited, said) = (&case.book, String::from_utf8_lossy(text));
         let mut fresh = garbage32(rng, edited.len() + 9);
@@ -273,10 +284,11 @@ fn main() {
         rounds::round(&mut rng, round, &mut library);
         round += 1;
     }
-    let Library(tally, ways) = library;
+    let Library(tally, ways, inside) = library;
     tally.print();
+    inside.print();
     ways.print();
-    let seldom = seldom(&tally, &ways, least);
+    let seldom = seldom(&tally, &inside, &ways, least);
     if !seldom.is_empty() {
         println!("{seldom}");
         std::process::exit(1);
@@ -288,15 +300,18 @@ fn main() {
 }
 
 /// What was met too seldom; nothing where all was met.
-fn seldom(tally: &Tally, ways: &Ways, least: u64) -> String {
-    let rare: Vec<u8> = (1..=25).filter(|&k| tally.refusals(k) < least).collect();
+fn seldom(tally: &Tally, inside: &Tally, ways: &Ways, least: u64) -> String {
+    let rare: Vec<u8> = (1..=26).filter(|&k| tally.refusals(k) < least).collect();
     if !rare.is_empty() {
         return format!("met fewer than {least} times: {rare:?}");
     }
-    for reached in [&rounds::EDITS[..], &rounds::IMPORTS] {
+    for reached in [&rounds::EDITS[..], &rounds::IMPORTS, &rounds::TOGETHER] {
         if let Some(said) = tally.seldom(reached, least) {
             return said;
         }
+    }
+    if let Some(said) = inside.seldom(&rounds::INSIDE, least) {
+        return said;
     }
     match ways.seldom() {
         Some(said) if least > 0 => said,

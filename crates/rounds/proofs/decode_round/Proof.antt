@@ -1,32 +1,25 @@
 -- The invariant: what was asked has passed, and k directions are decoded.
-use Prim.Native.Nat.{ℕ, _*_, _+_, _-_, _≤_, _<_}
+use Prim.Native.Nat.{ℕ, _-_, _≤_, _<_}
 use native.Mathlib.Omega.{arith}
-use mathlib.Core.Path.{_≡_, refl, sym, ap, _∙_}
+use mathlib.Core.Path.{_≡_, refl, sym, _∙_}
 use lib.ListN.{length, length-replicate}
-use mir.Syntax.{w64}
-use mir.Val.{toZ, ofZ}
-use borrow.Author.Needs.{needs}
-use Rattle.options.specs.Options.{optionsSize}
 use mir.Facts.{toZ-ofZ}
-use Rattle.rounds.proofs.Counted.{all-countable}
+use mir.Syntax.{w64}
+use mir.Val.{toZ}
+use Rattle.options.specs.Options.{optionsSize}
+use Rattle.round_parts.proofs.Counted.{all-countable}
 use Rattle.rounds.proofs.Going.{Going, going-begins}
-use Rattle.rounds.proofs.Whole.{Ready, ready, steps-long, words-long, store-long, answers-long, from-end, end-inside, steps-inside, words-inside, answers-inside, steps-mid, words-mid, answers-mid, going-next, round-ends, round-passed, round-refused}
+use Rattle.rounds.proofs.Whole.{Ready, ready, steps-long, words-long, store-long, answers-long, from-end, end-inside, steps-inside, words-inside, answers-inside, words-many, going-next, round-ends, round-passed, round-refused}
 use Rattle.rounds.proofs.decode_round.Statement.{statement}
 use Rattle.rounds.proofs.decode_round.Tie as tie
 use Rattle.rounds.proofs.decode_round.Reads as reads
 use Rattle.rounds.proofs.decode_round.Lts as lts
-use Rattle.plain.proofs.decode_open.Reads as decode-open-reads
-use Rattle.rounds.proofs.open_round.Reads as open-round-reads
-use Rattle.rounds.proofs.tell.put_told.Reads as put-told-reads
-
-from-to : (a n : ℕ) → a ≤ a + n
-from-to a n = omega arith
+use Rattle.round_parts.proofs.at.decode_at.Reads as decode-at-reads
+use Rattle.round_parts.proofs.at.put_at.Reads as put-at-reads
+use Rattle.round_parts.proofs.ask.open_round.Reads as open-round-reads
 
 options-long : {n : ℕ} → 131138 ≡ n → optionsSize ≤ n
 options-long e = omega arith
-
-three-fit : {n m : ℕ} → n ≤ 32 → m ≡ 96 → 3 * n ≤ m
-three-fit h e = omega arith
 
 below : {n m : ℕ} → n ≡ m → m < 9_223_372_036_854_775_808 → n < 9_223_372_036_854_775_808
 below e h = omega arith
@@ -63,99 +56,33 @@ mul-end c = omega arith
 shared-slice-read-end : tie.Need-shared-slice-read-end Inv-loop μ-loop
 shared-slice-read-end c = omega arith
 
-mul-decode-open : tie.Need-mul-decode-open Inv-loop μ-loop
-mul-decode-open c = let h : c .before .before .loop .k < length (c .before .before .before .before .before .before .before .before .before .before .before .before .before .args .ends .now) = omega arith in omega (arith, from-end _ _ _ _ _ _ _ _ (c .before .before .loop .inv .0) (c .before .before .loop .inv .1) h, end-inside _ _ _ _ _ _ _ _ (c .before .before .loop .inv .0) (c .before .before .loop .inv .1) h)
+mul-decode-at : tie.Need-mul-decode-at Inv-loop μ-loop
+mul-decode-at c = let h = c .before .loop-test .taken in omega (arith, from-end _ _ _ _ _ _ _ _ (c .before .before .loop .inv .0) (c .before .before .loop .inv .1) h, end-inside _ _ _ _ _ _ _ _ (c .before .before .loop .inv .0) (c .before .before .loop .inv .1) h)
 
-sub-decode-open : tie.Need-sub-decode-open Inv-loop μ-loop
-sub-decode-open c = let h : c .before .before .loop .k < length (c .before .before .before .before .before .before .before .before .before .before .before .before .before .args .ends .now) = omega arith in from-end _ _ _ _ _ _ _ _ (c .before .before .loop .inv .0) (c .before .before .loop .inv .1) h
+sub-decode-at : tie.Need-sub-decode-at Inv-loop μ-loop
+sub-decode-at c = let h = c .before .loop-test .taken in from-end _ _ _ _ _ _ _ _ (c .before .before .loop .inv .0) (c .before .before .loop .inv .1) h
 
-part-decode-open-start : tie.Need-part-decode-open-start Inv-loop μ-loop
-part-decode-open-start c = let h : c .before .before .loop .k < length (c .before .before .before .before .before .before .before .before .before .before .before .before .before .args .ends .now) = omega arith in from-end _ _ _ _ _ _ _ _ (c .before .before .loop .inv .0) (c .before .before .loop .inv .1) h
+part-decode-at-start : tie.Need-part-decode-at-start Inv-loop μ-loop
+part-decode-at-start c = let h = c .before .loop-test .taken in from-end _ _ _ _ _ _ _ _ (c .before .before .loop .inv .0) (c .before .before .loop .inv .1) h
 
-part-decode-open-end : tie.Need-part-decode-open-end Inv-loop μ-loop
-part-decode-open-end c = let h : c .before .before .loop .k < length (c .before .before .before .before .before .before .before .before .before .before .before .before .before .args .ends .now) = omega arith in end-inside _ _ _ _ _ _ _ _ (c .before .before .loop .inv .0) (c .before .before .loop .inv .1) h
+part-decode-at-end : tie.Need-part-decode-at-end Inv-loop μ-loop
+part-decode-at-end c = let h = c .before .loop-test .taken in end-inside _ _ _ _ _ _ _ _ (c .before .before .loop .inv .0) (c .before .before .loop .inv .1) h
 
-slice-aggregate-decode-open : tie.Need-slice-aggregate-decode-open Inv-loop μ-loop
-slice-aggregate-decode-open c = sym (c .before .before .before .before .before .before .before .before .before .open-round .kept .1 .0 ∙ length-replicate {A = ℕ} _ 0)
+slice-aggregate-decode-at : tie.Need-slice-aggregate-decode-at Inv-loop μ-loop
+slice-aggregate-decode-at c = sym (c .before .before .before .before .before .before .before .before .before .open-round .kept .1 .0 ∙ length-replicate {A = ℕ} _ 0)
 
-slice-aggregate-decode-open-2 : tie.Need-slice-aggregate-decode-open-2 Inv-loop μ-loop
-slice-aggregate-decode-open-2 c = c .before .before .before .before .before .loop .inv .2
+slice-aggregate-decode-at-2 : tie.Need-slice-aggregate-decode-at-2 Inv-loop μ-loop
+slice-aggregate-decode-at-2 c = c .before .before .before .before .before .loop .inv .2
 
-mul-decode-open-2 : tie.Need-mul-decode-open-2 Inv-loop μ-loop
-mul-decode-open-2 c = omega arith
+decode-at-requires : tie.Need-decode-at-requires Inv-loop μ-loop
+decode-at-requires c κs = let h = c .before .before .before .before .before .before .loop-test .taken in (c .before .before .before .before .before .before .before .loop .inv .0 .opened, ((refl, options-long (c .before .before .before .before .before .before .before .loop .inv .2)), (c .before .before .before .before .before .before .before .loop .inv .1 .swept-is, words-inside _ _ _ _ _ _ _ _ (c .before .before .before .before .before .before .before .loop .inv .0) (c .before .before .before .before .before .before .before .loop .inv .1) h)))
 
-mul-decode-open-3 : tie.Need-mul-decode-open-3 Inv-loop μ-loop
-mul-decode-open-3 c = omega arith
-
-add-decode-open : tie.Need-add-decode-open Inv-loop μ-loop
-add-decode-open c = omega arith
-
-mul-decode-open-4 : tie.Need-mul-decode-open-4 Inv-loop μ-loop
-mul-decode-open-4 c = omega arith
-
-sub-decode-open-2 : tie.Need-sub-decode-open-2 Inv-loop μ-loop
-sub-decode-open-2 c = omega arith
-
-part-decode-open-start-2 : tie.Need-part-decode-open-start-2 Inv-loop μ-loop
-part-decode-open-start-2 c = from-to (256 * c .before .before .before .before .before .loop .k) 256
-
-part-decode-open-end-2 : tie.Need-part-decode-open-end-2 Inv-loop μ-loop
-part-decode-open-end-2 c = let h : c .before .before .before .before .before .loop .k < length (c .before .before .before .before .before .before .before .before .before .before .before .before .before .before .before .before .args .ends .now) = omega arith in words-inside _ _ _ _ _ _ _ _ (c .before .before .before .before .before .loop .inv .0) (c .before .before .before .before .before .loop .inv .1) h
-
-decode-open-requires : tie.Need-decode-open-requires Inv-loop μ-loop
-decode-open-requires c κs = (c .before .before .before .before .before .before .before .loop .inv .0 .opened, (options-long (c .before .before .before .before .before .before .before .loop .inv .2), c .before .before .before .before .before .before .before .loop .inv .1 .swept-is))
-
-mul-put-told : tie.Need-mul-put-told Inv-loop μ-loop
-mul-put-told c = omega arith
-
-mul-put-told-2 : tie.Need-mul-put-told-2 Inv-loop μ-loop
-mul-put-told-2 c = omega arith
-
-add-put-told : tie.Need-add-put-told Inv-loop μ-loop
-add-put-told c = omega arith
-
-mul-put-told-3 : tie.Need-mul-put-told-3 Inv-loop μ-loop
-mul-put-told-3 c = omega arith
-
-sub-put-told : tie.Need-sub-put-told Inv-loop μ-loop
-sub-put-told c = omega arith
-
-part-put-told-start : tie.Need-part-put-told-start Inv-loop μ-loop
-part-put-told-start c = from-to (96 * c .before .before .before .before .before .before .before .before .before .before .before .before .loop .k) 96
-
-part-put-told-end : tie.Need-part-put-told-end Inv-loop μ-loop
-part-put-told-end c = let h : c .before .before .before .before .before .before .before .before .before .before .before .before .loop .k < length (c .before .before .before .before .before .before .before .before .before .before .before .before .before .before .before .before .before .before .before .before .before .before .before .args .ends .now) = omega arith in steps-inside _ _ _ _ _ _ _ _ (c .before .before .before .before .before .before .before .before .before .before .before .before .loop .inv .0) (c .before .before .before .before .before .before .before .before .before .before .before .before .loop .inv .1) h
-
-mul-put-told-4 : tie.Need-mul-put-told-4 Inv-loop μ-loop
-mul-put-told-4 c = omega arith
-
-mul-put-told-5 : tie.Need-mul-put-told-5 Inv-loop μ-loop
-mul-put-told-5 c = omega arith
-
-add-put-told-2 : tie.Need-add-put-told-2 Inv-loop μ-loop
-add-put-told-2 c = omega arith
-
-mul-put-told-6 : tie.Need-mul-put-told-6 Inv-loop μ-loop
-mul-put-told-6 c = omega arith
-
-sub-put-told-2 : tie.Need-sub-put-told-2 Inv-loop μ-loop
-sub-put-told-2 c = omega arith
-
-part-put-told-start-2 : tie.Need-part-put-told-start-2 Inv-loop μ-loop
-part-put-told-start-2 c = from-to (9 * c .before .before .before .before .before .before .before .before .before .before .before .before .before .loop .k) 9
-
-part-put-told-end-2 : tie.Need-part-put-told-end-2 Inv-loop μ-loop
-part-put-told-end-2 c = let h : c .before .before .before .before .before .before .before .before .before .before .before .before .before .loop .k < length (c .before .before .before .before .before .before .before .before .before .before .before .before .before .before .before .before .before .before .before .before .before .before .before .before .args .ends .now) = omega arith in answers-inside _ _ _ _ _ _ _ _ (c .before .before .before .before .before .before .before .before .before .before .before .before .before .loop .inv .0) (c .before .before .before .before .before .before .before .before .before .before .before .before .before .loop .inv .1) h
-
-put-told-requires : tie.Need-put-told-requires Inv-loop μ-loop
-put-told-requires c κs =
-    let h : c .before .before .before .before .before .before .before .before .before .before .before .before .before .before .loop .k < length (c .before .before .before .before .before .before .before .before .before .before .before .before .before .before .before .before .before .before .before .before .before .before .before .before .before .args .ends .now) = omega arith in
-    let D = c .before .before .before .before .before .before .decode-open .ensures in (
-      (three-fit (D .has-room) (steps-mid _ _ _ _ _ _ _ _ (c .before .before .before .before .before .before .before .before .before .before .before .before .before .before .loop .inv .0) (c .before .before .before .before .before .before .before .before .before .before .before .before .before .before .loop .inv .1) h), D .few),
-      (
-        answers-mid _ _ _ _ _ _ _ _ (c .before .before .before .before .before .before .before .before .before .before .before .before .before .before .loop .inv .0) (c .before .before .before .before .before .before .before .before .before .before .before .before .before .before .loop .inv .1) h,
-        all-countable _ _ _ _ _ _ _ _ _ D (omega arith) (below (c .before .before .before .before .before .before .decode-open .kept .1 .1 .1 .1 .1 .0 ∙ words-mid _ _ _ _ _ _ _ _ (c .before .before .before .before .before .before .before .before .before .before .before .before .before .before .loop .inv .0) (c .before .before .before .before .before .before .before .before .before .before .before .before .before .before .loop .inv .1) h) (omega arith)) (below (store-long _ _ _ _ _ _ _ _ (c .before .before .before .before .before .before .before .before .before .before .before .before .before .before .loop .inv .0) (c .before .before .before .before .before .before .before .before .before .before .before .before .before .before .loop .inv .1)) (omega (arith, c .before .before .before .before .before .before .before .before .before .before .before .before .before .before .before .before .before .before .before .before .before .before .before .before .before .good .1 .1 .1 .1 .1 .1 .0))),
-      ),
+put-at-requires : tie.Need-put-at-requires Inv-loop μ-loop
+put-at-requires c κs =
+    let h = c .before .before .before .before .before .before .before .before .before .before .before .before .before .loop-test .taken in
+    let D = c .before .before .before .before .before .before .decode-at .ensures .decodes in (
+      (steps-inside _ _ _ _ _ _ _ _ (c .before .before .before .before .before .before .before .before .before .before .before .before .before .before .loop .inv .0) (c .before .before .before .before .before .before .before .before .before .before .before .before .before .before .loop .inv .1) h, answers-inside _ _ _ _ _ _ _ _ (c .before .before .before .before .before .before .before .before .before .before .before .before .before .before .loop .inv .0) (c .before .before .before .before .before .before .before .before .before .before .before .before .before .before .loop .inv .1) h),
+      (D .has-room, all-countable _ _ _ _ _ _ _ _ _ D (omega arith) (below (words-many _ _ _ _ _ _ _ _ (c .before .before .before .before .before .before .before .before .before .before .before .before .before .before .loop .inv .0) (c .before .before .before .before .before .before .before .before .before .before .before .before .before .before .loop .inv .1) h) (omega arith)) (below (store-long _ _ _ _ _ _ _ _ (c .before .before .before .before .before .before .before .before .before .before .before .before .before .before .loop .inv .0) (c .before .before .before .before .before .before .before .before .before .before .before .before .before .before .loop .inv .1)) (omega (arith, c .before .before .before .before .before .before .before .before .before .before .before .before .before .before .before .before .before .before .before .before .before .before .before .before .before .good .1 .1 .1 .1 .1 .1 .0)))),
     )
 
 add-k : tie.Need-add-k Inv-loop μ-loop
@@ -166,10 +93,10 @@ loop-less c = omega arith
 
 loop-again : tie.Need-loop-again Inv-loop μ-loop
 loop-again c =
-    let h : c .before .before .before .before .before .before .before .before .before .before .before .before .before .before .before .before .before .before .loop .k < length (c .before .before .before .before .before .before .before .before .before .before .before .before .before .before .before .before .before .before .before .before .before .before .before .before .before .before .before .before .before .args .ends .now) = omega arith in (
+    let h = c .before .before .before .before .before .before .before .before .before .before .before .before .before .before .before .before .before .loop-test .taken in (
       c .before .before .before .before .before .before .before .before .before .before .before .before .before .before .before .before .before .before .loop .inv .0,
-      going-next _ _ _ _ _ _ _ _ (c .before .before .before .before .before .before .before .before .before .before .before .before .before .before .before .before .before .before .loop .inv .0) (c .before .before .before .before .before .before .before .before .before .before .before .before .before .before .before .before .before .before .loop .inv .1) h (c .before .before .before .before .before .before .before .before .before .before .decode-open .result) (c .before .before .before .before .before .before .before .before .before .before .decode-open .last .1 .1 .1 .1 .1 .0) (c .before .before .before .before .before .before .before .before .before .before .decode-open .last .1 .1 .1 .1 .1 .1 .0) (c .before .before .before .before .before .before .before .before .before .before .decode-open .ensures) (c .before .before .before .put-told .result) (c .before .before .before .put-told .last .0) (c .before .before .before .put-told .last .1 .0) (c .before .before .before .put-told .ensures .0) (c .before .before .before .put-told .ensures .1 .0) (c .before .before .before .put-told .ensures .1 .1),
-      c .before .before .before .before .before .before .before .before .before .before .before .before .before .before .before .before .before .before .loop .inv .2 ∙ sym (c .before .before .before .before .before .before .before .before .before .before .decode-open .kept .1 .1 .1 .0),
+      going-next _ _ _ _ _ _ _ _ (c .before .before .before .before .before .before .before .before .before .before .before .before .before .before .before .before .before .before .loop .inv .0) (c .before .before .before .before .before .before .before .before .before .before .before .before .before .before .before .before .before .before .loop .inv .1) h (c .before .before .before .before .before .before .before .before .before .before .decode-at .result) (c .before .before .before .before .before .before .before .before .before .before .decode-at .last .1 .1 .1 .1 .1 .0) (c .before .before .before .before .before .before .before .before .before .before .decode-at .last .1 .1 .1 .1 .1 .1 .0) (c .before .before .before .before .before .before .before .before .before .before .decode-at .ensures) (c .before .before .before .put-at .result) (c .before .before .before .put-at .last .0) (c .before .before .before .put-at .last .1 .0) (c .before .before .before .put-at .ensures .0) (c .before .before .before .put-at .ensures .1 .0) (c .before .before .before .put-at .ensures .1 .1),
+      c .before .before .before .before .before .before .before .before .before .before .before .before .before .before .before .before .before .before .loop .inv .2 ∙ sym (c .before .before .before .before .before .before .before .before .before .before .decode-at .kept .1 .1 .1 .0),
     )
 
 same-length : tie.Need-same-length Inv-loop μ-loop
@@ -202,35 +129,14 @@ decode-round-spec =
     loop-holds
     mul-end
     shared-slice-read-end
-    mul-decode-open
-    sub-decode-open
-    part-decode-open-start
-    part-decode-open-end
-    slice-aggregate-decode-open
-    slice-aggregate-decode-open-2
-    mul-decode-open-2
-    mul-decode-open-3
-    add-decode-open
-    mul-decode-open-4
-    sub-decode-open-2
-    part-decode-open-start-2
-    part-decode-open-end-2
-    decode-open-requires
-    mul-put-told
-    mul-put-told-2
-    add-put-told
-    mul-put-told-3
-    sub-put-told
-    part-put-told-start
-    part-put-told-end
-    mul-put-told-4
-    mul-put-told-5
-    add-put-told-2
-    mul-put-told-6
-    sub-put-told-2
-    part-put-told-start-2
-    part-put-told-end-2
-    put-told-requires
+    mul-decode-at
+    sub-decode-at
+    part-decode-at-start
+    part-decode-at-end
+    slice-aggregate-decode-at
+    slice-aggregate-decode-at-2
+    decode-at-requires
+    put-at-requires
     add-k
     loop-less
     loop-again

@@ -1,0 +1,5 @@
+pub mod Rising
+pub mod Asking
+pub mod Telling
+pub mod Counted
+pub mod Places

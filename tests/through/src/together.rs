@@ -1,0 +1,142 @@
+//! A round's directions together, through `phrase_decode_round`: held to the library's own decodes of the directions one by one, and to the
+//! second decoder. Behind the part of each list that is lent there are places more, which no call may change.
+
+use crate::{garbage16, garbage64, library};
+use second::gen::Rng;
+use second::round::Lists;
+use second::round_cases::RoundCase;
+
+extern "C" {
+    fn phrase_decode_round(
+        book: *const i32,
+        book_len: usize,
+        directions: *const u16,
+        directions_len: usize,
+        ends: *const usize,
+        ends_len: usize,
+        width: i64,
+        steps: *mut u16,
+        steps_len: usize,
+        words: *mut u16,
+        words_len: usize,
+        store: *mut i64,
+        store_len: usize,
+        answers: *mut i64,
+        answers_len: usize,
+    ) -> i32;
+}
+
+/// How many places each list has behind the part that is lent.
+const BEHIND: usize = 100;
+
+/// Lists full of garbage for the case, with the places behind.
+fn garbage(rng: &mut Rng, case: &RoundCase) -> Lists {
+    Lists {
+        steps: garbage16(rng, case.steps_len + BEHIND),
+        words: garbage16(rng, case.words_len + BEHIND),
+        store: garbage64(rng, case.store_len + BEHIND),
+        answers: garbage64(rng, case.answers_len + BEHIND),
+    }
+}
+
+/// What the library replies to the round, and the lists afterwards, whole.
+fn decoded(case: &RoundCase, before: &Lists) -> (i32, Lists) {
+    let mut after = before.clone();
+    let reply = unsafe {
+        phrase_decode_round(
+            case.book.as_ptr(),
+            case.book.len(),
+            case.directions.as_ptr(),
+            case.directions.len(),
+            case.ends.as_ptr(),
+            case.ends.len(),
+            case.width,
+            after.steps.as_mut_ptr(),
+            case.steps_len,
+            after.words.as_mut_ptr(),
+            case.words_len,
+            after.store.as_mut_ptr(),
+            case.store_len,
+            after.answers.as_mut_ptr(),
+            case.answers_len,
+        )
+    };
+    (reply, after)
+}
+
+/// The same by single decodes: each in its own part of the lists, one after the other.
+fn one_by_one(case: &RoundCase, before: &Lists) -> Lists {
+    let mut after = before.clone();
+    for (k, alone) in case.alone().iter().enumerate() {
+        let answer = &mut after.answers[9 * k..9 * (k + 1)];
+        answer.fill(0);
+        let reply = library::decode(
+            &alone.book,
+            &alone.direction,
+            alone.width,
+            &mut after.steps[96 * k..96 * (k + 1)],
+            &mut after.words[256 * k..256 * (k + 1)],
+            &mut after.store[..case.store_len],
+            &mut answer[1..],
+        );
+        answer[0] = reply as i64;
+    }
+    after
+}
+
+/// The list after the call that was lent its first part.
+fn with_behind<T: Copy>(part: &[T], whole: &[T]) -> Vec<T> {
+    [part, &whole[part.len()..]].concat()
+}
+
+/// What the second decoder says, with the places behind as they were.
+fn by_second(case: &RoundCase, before: &Lists) -> (Result<(), u8>, Lists, Vec<u8>) {
+    let lent = Lists {
+        steps: before.steps[..case.steps_len].to_vec(),
+        words: before.words[..case.words_len].to_vec(),
+        store: before.store[..case.store_len].to_vec(),
+        answers: before.answers[..case.answers_len].to_vec(),
+    };
+    let (reply, after) = case.answer(&lent);
+    let inside = case.inside(reply, &after);
+    let whole = Lists {
+        steps: with_behind(&after.steps, &before.steps),
+        words: with_behind(&after.words, &before.words),
+        store: with_behind(&after.store, &before.store),
+        answers: with_behind(&after.answers, &before.answers),
+    };
+    (reply, whole, inside)
+}
+
+/// The two are the same, number by number; the case and the first place that differs are said where they are not.
+fn hold(case: &RoundCase, said: &str, given: &Lists, meant: &Lists) {
+    fn first<T: PartialEq>(one: &[T], other: &[T]) -> Option<usize> {
+        (0..one.len().max(other.len())).find(|&k| one.get(k) != other.get(k))
+    }
+    let differ = [
+        ("steps", first(&given.steps, &meant.steps)),
+        ("words", first(&given.words, &meant.words)),
+        ("store", first(&given.store, &meant.store)),
+        ("answers", first(&given.answers, &meant.answers)),
+    ];
+    for (list, place) in differ {
+        assert!(place.is_none(), "{said}: {list} at {place:?} of {case:?}");
+    }
+}
+
+/// One round; what it and its directions were answered.
+pub fn check(rng: &mut Rng, case: &RoundCase) -> (u8, Vec<u8>) {
+    let before = garbage(rng, case);
+    let (reply, after) = decoded(case, &before);
+    let (expected, meant, inside) = by_second(case, &before);
+    let code = expected.err().unwrap_or(0);
+    assert_eq!(reply, code as i32, "decode_round {case:?}");
+    hold(case, "the second decoder's", &after, &meant);
+    if code == 0 {
+        let alone = one_by_one(case, &before);
+        hold(case, "the directions alone", &after, &alone);
+    } else {
+        hold(case, "the lists before", &after, &before);
+    }
+    (code, inside)
+}
