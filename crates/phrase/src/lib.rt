@@ -48,8 +48,8 @@ pub fn decode_round(
     store: &mut [i64],
     answers: &mut [i64],
 ) -> Checked
-    ensures { λ r. ⌜ (checkedReply r ≡ decodeRound (now (book .entry)) (now (directions .entry)) (now (ends .entry)) (lentRecords (length (now (steps .entry))) (now (words .entry)) (now (store .entry))) (length (now (answers .entry))))
-        × RoundLists asRecords (roundRefusal (now (book .entry)) (now (directions .entry)) (now (ends .entry)) (lentRecords (length (now (steps .entry))) (now (words .entry)) (now (store .entry))) (length (now (answers .entry)))) (now (book .entry)) (directionsOf (now (directions .entry)) (now (ends .entry))) width (now (steps .entry)) (now (steps .exit)) (now (words .entry)) (now (words .exit)) (now (store .entry)) (now (store .exit)) (now (answers .entry)) (now (answers .exit)) ⌝ }
+    ensures { λ r. ⌜ checkedReply r ≡ decodeRound (now (book .entry)) (now (directions .entry)) (now (ends .entry)) (lentRecords (length (now (steps .entry))) (now (words .entry)) (now (store .entry))) (length (now (answers .entry))) ⌝ }
+    ensures { λ _. ⌜ RoundLists asRecords (roundRefusal (now (book .entry)) (now (directions .entry)) (now (ends .entry)) (lentRecords (length (now (steps .entry))) (now (words .entry)) (now (store .entry))) (length (now (answers .entry)))) (now (book .entry)) (directionsOf (now (directions .entry)) (now (ends .entry))) width (now (steps .entry)) (now (steps .exit)) (now (words .entry)) (now (words .exit)) (now (store .entry)) (now (store .exit)) (now (answers .entry)) (now (answers .exit)) ⌝ }
 {
     let answer = rounds::rows::decode_rows(
         book,
