@@ -54,6 +54,23 @@ extern "C" {
         report: *mut i64,
         report_len: usize,
     ) -> i32;
+    fn phrase_decode_round(
+        book: *const i32,
+        book_len: usize,
+        directions: *const u16,
+        directions_len: usize,
+        ends: *const usize,
+        ends_len: usize,
+        width: i64,
+        steps: *mut u16,
+        steps_len: usize,
+        words: *mut u16,
+        words_len: usize,
+        store: *mut i64,
+        store_len: usize,
+        answers: *mut i64,
+        answers_len: usize,
+    ) -> i32;
 }
 
 /// How many numbers were written, or minus the refusal.
@@ -164,6 +181,40 @@ pub fn decode(
             store.len(),
             report.as_mut_ptr(),
             report.len(),
+        )
+    }
+}
+
+/// 0, or the refusal of the whole round. The directions follow one another in one list, and `ends` says where each ends. Direction k (from 0) has the 96 numbers
+/// for steps from 96 × k on, the 256 words from 256 × k on, and of `answers` the nine numbers from 9 × k on: 0 or its refusal, and the eight values of a decode.
+#[allow(clippy::too_many_arguments)]
+pub fn decode_round(
+    book: &[i32],
+    directions: &[u16],
+    ends: &[usize],
+    width: i64,
+    steps: &mut [u16],
+    words: &mut [u16],
+    store: &mut [i64],
+    answers: &mut [i64],
+) -> i32 {
+    unsafe {
+        phrase_decode_round(
+            book.as_ptr(),
+            book.len(),
+            directions.as_ptr(),
+            directions.len(),
+            ends.as_ptr(),
+            ends.len(),
+            width,
+            steps.as_mut_ptr(),
+            steps.len(),
+            words.as_mut_ptr(),
+            words.len(),
+            store.as_mut_ptr(),
+            store.len(),
+            answers.as_mut_ptr(),
+            answers.len(),
         )
     }
 }

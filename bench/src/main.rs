@@ -114,6 +114,101 @@ fn decode(name: &str, book: &[i32], direction: &[u16], width: i64) {
     );
 }
 
+/// 64 directions of the middle book, 4 to 12 words of its own one in another order, together and one by one, both by the library: the same lists afterwards.
+/// The store has a tenth more places than the most that one of them enters or, as a dispenser's has that also decodes with pruning off, 300,000.
+fn decoding_rounds() {
+    println!("64 directions of the middle book           states  round ms  single ms                           ratio");
+    let book = second::read_book(&file("middle.txt"), usize::MAX).unwrap();
+    let direction = second::read_direction(&file("middle-direction.txt"), 32).unwrap();
+    let mut rng = Rng::new(7);
+    let (mut directions, mut ends) = (Vec::new(), Vec::new());
+    for k in 0..64 {
+        let mut next = direction.clone();
+        for i in 1..next.len() {
+            next.swap(i, rng.between(0, i as i64) as usize);
+        }
+        directions.extend(&next[..4 + k % 9]);
+        ends.push(directions.len());
+    }
+    for width in [1_000, 3_000] {
+        let mut one = Lent::new(300_000);
+        let entered: Vec<usize> = (0..64)
+            .map(|k| if k == 0 { 0 } else { ends[k - 1] }..ends[k])
+            .map(|part| match one.decode(&book, &directions[part], width) {
+                0 => one.report[3] as usize,
+                _ => 0,
+            })
+            .collect();
+        let most = entered.iter().max().unwrap();
+        for (store, places) in [("its own", most + most / 10 + 1), ("large", 300_000)] {
+            let mut round = Round::new(64, places);
+            let mut single = Round::new(64, places);
+            let (a, b) = side_by_side(
+                20,
+                || assert_eq!(round.decode(&book, &directions, &ends, width), 0),
+                || single.decode_one_by_one(&book, &directions, &ends, width),
+            );
+            assert!(round == single);
+            println!(
+                "{:40} {:8} {:9.3} {:9.3} {:27.2}",
+                format!("{}, {store} store", said(width)),
+                entered.iter().sum::<usize>(),
+                a.as_secs_f64() * 1e3,
+                b.as_secs_f64() * 1e3,
+                ratio(a, b)
+            );
+        }
+    }
+}
+
+/// The lists that the library is lent for a round.
+#[derive(PartialEq)]
+struct Round {
+    steps: Vec<u16>,
+    words: Vec<u16>,
+    store: Vec<i64>,
+    answers: Vec<i64>,
+}
+
+impl Round {
+    fn new(count: usize, places: usize) -> Round {
+        Round {
+            steps: vec![0; 96 * count],
+            words: vec![0; 256 * count],
+            store: vec![0; 8 * places],
+            answers: vec![0; 9 * count],
+        }
+    }
+    fn decode(&mut self, book: &[i32], directions: &[u16], ends: &[usize], width: i64) -> i32 {
+        library::decode_round(
+            book,
+            directions,
+            ends,
+            width,
+            &mut self.steps,
+            &mut self.words,
+            &mut self.store,
+            &mut self.answers,
+        )
+    }
+    fn decode_one_by_one(&mut self, book: &[i32], directions: &[u16], ends: &[usize], width: i64) {
+        let mut from = 0;
+        for (k, &end) in ends.iter().enumerate() {
+            let (answer, report) = self.answers[9 * k..9 * (k + 1)].split_at_mut(1);
+            answer[0] = library::decode(
+                book,
+                &directions[from..end],
+                width,
+                &mut self.steps[96 * k..96 * (k + 1)],
+                &mut self.words[256 * k..256 * (k + 1)],
+                &mut self.store,
+                report,
+            ) as i64;
+            from = end;
+        }
+    }
+}
+
 fn file(name: &str) -> Vec<u8> {
     let path = format!("{}/{name}", env!("CARGO_MANIFEST_DIR"));
     std::fs::read(path).expect("a file of this folder")
@@ -501,6 +596,8 @@ fn main() {
     decoding_ties();
     println!();
     decoding_back_off();
+    println!();
+    decoding_rounds();
     println!();
     reading();
     println!();

@@ -51,17 +51,3 @@ module _ (loaded : List ℤ) (direction : List ℕ) (width : ℤ) (steps₀ step
           store-is = into .store-is;
           report-is = r ∙ ap (λ (x : Reply Answer). filledWith (decodeReport x) report₀) (into .reply-is);
         }
-
-    pub countable : (a : Answer) → core .reply ≡ Done a → length steps₀ < 9_223_372_036_854_775_808 → length words₁ < 9_223_372_036_854_775_808 → length store₀ < 9_223_372_036_854_775_808 → Countable a
-    countable a e s w t =
-        let d : decode loaded direction width lent ≡ done a = plain-decoded into e in
-        let words = targetWords (bookOf loaded) found in
-        let f = answered loaded direction width lent a d in
-        let many : a .words < 9_223_372_036_854_775_808 = omega (arith, decode-counts loaded direction width lent a d .1, ap length (plain-words into e), length-append words (drop (length words) words₀)) in
-        let n = decode-in-all loaded direction width lent a d in
-        record {
-          steps = omega (arith, plain-count into e, c .has-room);
-          words = many;
-          states = omega (arith, f .room, f .states-are);
-          supplied = record { triples = omega (arith, n, many); pairs = omega (arith, n, many); words = omega (arith, n, many); unseen = omega (arith, n, many) };
-        }

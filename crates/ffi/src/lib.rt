@@ -13,7 +13,8 @@ ghost use Rattle.meaning.specs.Reply.{readReply, readBook, readBookList, readDi
 ghost use Rattle.meaning.specs.Revision.{addEntry, addEntryList, removeEntry, removeEntryList};
 ghost use Rattle.arpa.specs.Import.{importArpa, importArpaList};
 ghost use Rattle.ffi.specs.Bounds.{Counted};
-ghost use Rattle.lists.specs.Steps.{recordsIn};
+ghost use Rattle.meaning.specs.Round.{decodeRound, roundRefusal, directionsOf, RoundLists};
+ghost use Rattle.lists.specs.Steps.{recordsIn, lentNumbers, asNumbers};
 ghost use Rattle.ffi.specs.Calls.{countOrRefusal, zeroOrRefusal, scoreReport, DecodesNumbers};
 
 // The refusal's number as C has it.
@@ -164,5 +165,27 @@ pub extern "C" fn phrase_decode(
             0
         }
         Decoded::Refused(refusal) => code_of(refusal),
+    }
+}
+
+// Decodes a round's directions, one after the other: 0, or the refusal of the whole round; nine numbers of `answers` to a direction are its answer, 0 or the
+// refusal, and what a decode reports.
+#[no_mangle]
+pub extern "C" fn phrase_decode_round(
+    book: &[i32],
+    directions: &[u16],
+    ends: &[usize],
+    width: i64,
+    steps: &mut [u16],
+    words: &mut [u16],
+    store: &mut [i64],
+    answers: &mut [i64],
+) -> i32
+    ensures { λ r. ⌜ r ≡ zeroOrRefusal (decodeRound (now (book .entry)) (now (directions .entry)) (now (ends .entry)) (lentNumbers (now (steps .entry)) (now (words .entry)) (now (store .entry))) (length (now (answers .entry)))) ⌝ }
+    ensures { λ _. ⌜ RoundLists asNumbers (roundRefusal (now (book .entry)) (now (directions .entry)) (now (ends .entry)) (lentNumbers (now (steps .entry)) (now (words .entry)) (now (store .entry))) (length (now (answers .entry)))) (now (book .entry)) (directionsOf (now (directions .entry)) (now (ends .entry))) width (now (steps .entry)) (now (steps .exit)) (now (words .entry)) (now (words .exit)) (now (store .entry)) (now (store .exit)) (now (answers .entry)) (now (answers .exit)) ⌝ }
+{
+    match rounds::decode_round(book, directions, ends, width, steps, words, store, answers) {
+        Checked::Passed => 0,
+        Checked::Refused(refusal) => code_of(refusal),
     }
 }

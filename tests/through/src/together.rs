@@ -6,26 +6,6 @@ use second::gen::Rng;
 use second::round::Lists;
 use second::round_cases::RoundCase;
 
-extern "C" {
-    fn phrase_decode_round(
-        book: *const i32,
-        book_len: usize,
-        directions: *const u16,
-        directions_len: usize,
-        ends: *const usize,
-        ends_len: usize,
-        width: i64,
-        steps: *mut u16,
-        steps_len: usize,
-        words: *mut u16,
-        words_len: usize,
-        store: *mut i64,
-        store_len: usize,
-        answers: *mut i64,
-        answers_len: usize,
-    ) -> i32;
-}
-
 /// How many places each list has behind the part that is lent.
 const BEHIND: usize = 100;
 
@@ -42,25 +22,16 @@ fn garbage(rng: &mut Rng, case: &RoundCase) -> Lists {
 /// What the library replies to the round, and the lists afterwards, whole.
 fn decoded(case: &RoundCase, before: &Lists) -> (i32, Lists) {
     let mut after = before.clone();
-    let reply = unsafe {
-        phrase_decode_round(
-            case.book.as_ptr(),
-            case.book.len(),
-            case.directions.as_ptr(),
-            case.directions.len(),
-            case.ends.as_ptr(),
-            case.ends.len(),
-            case.width,
-            after.steps.as_mut_ptr(),
-            case.steps_len,
-            after.words.as_mut_ptr(),
-            case.words_len,
-            after.store.as_mut_ptr(),
-            case.store_len,
-            after.answers.as_mut_ptr(),
-            case.answers_len,
-        )
-    };
+    let reply = library::decode_round(
+        &case.book,
+        &case.directions,
+        &case.ends,
+        case.width,
+        &mut after.steps[..case.steps_len],
+        &mut after.words[..case.words_len],
+        &mut after.store[..case.store_len],
+        &mut after.answers[..case.answers_len],
+    );
     (reply, after)
 }
 

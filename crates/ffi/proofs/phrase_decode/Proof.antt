@@ -12,7 +12,8 @@ use Rattle.meaning.specs.declared.Decoded.{Decoded}
 use Rattle.meaning.specs.Reply.{filledWith}
 use Rattle.ffi.specs.Calls.{zeroOrRefusal, decodeReport}
 use Rattle.ffi.proofs.Codes.{code-back}
-use Rattle.ffi.proofs.Decoding.{decoded-numbers, countable}
+use Rattle.round_parts.proofs.Counted.{countable}
+use Rattle.ffi.proofs.Decoding.{decoded-numbers}
 use Rattle.meaning.proofs.Filled.{filled-none}
 use borrow.Author.Needs.{needs}
 use Rattle.ffi.proofs.phrase_decode.Statement.{statement}
@@ -39,11 +40,8 @@ enum-known-reply c = search needs
 
 put-answer-requires : tie.Need-put-answer-requires
 put-answer-requires c κs =
-    let a = c .before .before .before .before .before .before .before .before .before .before .before .before .before .before .before .before .before .before .args in
-    let back = width-read (c .before .before .before .before .before .before .before .before .before .before .before .before .before .before .before .before .before .before) in
-    countable (a .book .now) (a .direction .now) (a .width) (a .steps .now) (a .steps .now) (a .words .now) (c .before .before .before .before .before .before .before .before .before .before .before .before .decode-plain .last .1 .1 .1 .1 .0) (a .store .now) (c .before .before .before .before .before .before .before .before .before .before .before .before .decode-plain .last .1 .1 .1 .1 .1 .0) (c .before .before .before .before .before .before .before .before .before .before .before .before .decode-plain .result)
-    (subst (λ (w : ℤ). PlainDecodes (a .book .now) (a .direction .now) w (length (a .steps .now) / 3) (a .words .now) (c .before .before .before .before .before .before .before .before .before .before .before .before .decode-plain .last .1 .1 .1 .1 .0) (a .store .now) (c .before .before .before .before .before .before .before .before .before .before .before .before .decode-plain .last .1 .1 .1 .1 .1 .0) (c .before .before .before .before .before .before .before .before .before .before .before .before .decode-plain .result)) back (c .before .before .before .before .before .before .before .before .before .before .before .before .decode-plain .ensures))
-    (c .before .before .reply .given .0 .0) (c .before .before .reply .given .1) (omega (arith, c .before .before .before .before .before .before .before .before .before .before .before .before .before .before .before .before .before .before .good .1 .1 .1 .0)) (omega (arith, c .before .before .before .before .before .before .before .before .before .before .before .before .before .before .before .before .before .before .good .1 .1 .1 .1 .0)) (omega (arith, c .before .before .before .before .before .before .before .before .before .before .before .before .before .before .before .before .before .before .good .1 .1 .1 .1 .1 .0))
+    let s = c .before .before .before .before .before .before .before .before .before .before .before .before .before .before .before .before .before .before in let D = c .before .before .before .before .before .before .before .before .before .before .before .before .decode-plain .ensures in
+    countable _ _ _ _ _ _ _ _ _ D (omega (arith, s .good .1 .1 .1 .0)) (omega (arith, s .good .1 .1 .1 .1 .0)) (omega (arith, s .good .1 .1 .1 .1 .1 .0)) (c .before .before .reply .given .0 .0) (c .before .before .reply .given .1)
 
 enum-known-reply-2 : tie.Need-enum-known-reply-2
 enum-known-reply-2 c = search needs
