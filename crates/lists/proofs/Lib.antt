@@ -1,3 +1,4 @@
 pub mod Reports
 pub mod Threes
 pub mod Rounds
+pub mod Placed

@@ -32,7 +32,7 @@ step-next a b c numbers k =
     let e2 : suc (suc (suc (k * 3))) + 2 ≡ suc (suc (suc (k * 3 + 2))) = omega arith in
     rw (e, e1, e2)
 
-one-more : (k : ℕ) (numbers : List ℕ) → suc k * 3 ≤ length numbers → take k (recordsIn numbers) ++ (stepAt numbers k ∷ []) ≡ take (suc k) (recordsIn numbers)
+pub one-more : (k : ℕ) (numbers : List ℕ) → suc k * 3 ≤ length numbers → take k (recordsIn numbers) ++ (stepAt numbers k ∷ []) ≡ take (suc k) (recordsIn numbers)
 one-more k [] h = absurd (omega arith)
 one-more k (a ∷ []) h = absurd (omega arith)
 one-more k (a ∷ b ∷ []) h = absurd (omega arith)

@@ -1,5 +1,5 @@
 -- Steps as C lends them, three numbers each.
-use Prim.Native.Nat.{ℕ}
+use Prim.Native.Nat.{ℕ, _*_, min}
 use mathlib.Core.List.{List, [], _∷_}
 use lib.IntN.{ℤ}
 use lib.ListN.{length}
@@ -33,3 +33,7 @@ decodedNumbers loaded direction width lent numbers =
 -- the steps of a round as numbers: 32 places are 96 of them
 abbrev pub asNumbers : Form ℕ
 asNumbers = record { places = λ numbers. length (recordsIn numbers); size = 96; decoded = decodedNumbers }
+
+-- how many of a caller's places for steps so many directions, but no more than 64, can need
+abbrev pub placesFor : ℕ → ℕ → ℕ
+placesFor count places = min (32 * min count 64) places

@@ -1,9 +1,13 @@
 // The calls of document 01 that take a caller's list of step records.
+use meaning::Checked;
 use meaning::Decoded;
 use meaning::Scored;
 use meaning::Step;
 ghost use mathlib.Core.Path.{_≡_};
-ghost use Rattle.meaning.specs.Reply.{scoredReply, scoreProposal, Decodes};
+ghost use lib.ListN.{length};
+ghost use Rattle.meaning.specs.Reply.{checkedReply, scoredReply, scoreProposal, Decodes};
+ghost use Rattle.meaning.specs.Round.{asRecords, decodeRound, roundRefusal, directionsOf, RoundLists};
+ghost use Rattle.rounds.specs.Rows.{lentRecords};
 
 // "Scoring a proposed list", of any length: questions 2 to 6, 9, 10 and 16 to 19, and where none refuses the score of the steps and the four counts of
 // ticket 3. The first 33 records decide: of 32 words none is left for the 33rd.
@@ -29,5 +33,34 @@ pub fn decode(
 {
     let answer = plain::decode_plain(book, direction, width, steps.len(), words, store);
     records::put_all(steps, answer.plain);
+    answer.reply
+}
+
+// Ticket 7: a round's directions together. Direction k has the 32 step records, the 256 words and the 9 answers that follow those of direction k - 1; a
+// refused round changes no list.
+pub fn decode_round(
+    book: &[i32],
+    directions: &[u16],
+    ends: &[usize],
+    width: i64,
+    steps: &mut [Step],
+    words: &mut [u16],
+    store: &mut [i64],
+    answers: &mut [i64],
+) -> Checked
+    ensures { λ r. ⌜ checkedReply r ≡ decodeRound (now (book .entry)) (now (directions .entry)) (now (ends .entry)) (lentRecords (length (now (steps .entry))) (now (words .entry)) (now (store .entry))) (length (now (answers .entry))) ⌝ }
+    ensures { λ _. ⌜ RoundLists asRecords (roundRefusal (now (book .entry)) (now (directions .entry)) (now (ends .entry)) (lentRecords (length (now (steps .entry))) (now (words .entry)) (now (store .entry))) (length (now (answers .entry)))) (now (book .entry)) (directionsOf (now (directions .entry)) (now (ends .entry))) width (now (steps .entry)) (now (steps .exit)) (now (words .entry)) (now (words .exit)) (now (store .entry)) (now (store .exit)) (now (answers .entry)) (now (answers .exit)) ⌝ }
+{
+    let answer = rounds::rows::decode_rows(
+        book,
+        directions,
+        ends,
+        width,
+        steps.len(),
+        words,
+        store,
+        answers,
+    );
+    records::rows::put_over(steps, answer.rows);
     answer.reply
 }

@@ -1,3 +1,4 @@
 pub mod Laws
 pub mod Prefix
+pub mod Placing
 pub mod Walk

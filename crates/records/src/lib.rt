@@ -1,11 +1,13 @@
 // A lent list of step records, and the same steps as plain numbers. A list of structs is read and written only here: whoever
-// decodes or scores works on a `Plain`, by value.
+// decodes or scores works on a `Plain`, by value, and a round on `rows::Rows`.
 ghost use mathlib.Core.Path.{_≡_};
 ghost use Prim.Native.Nat.{_<_, _≤_, min};
 ghost use lib.ListN.{length};
 ghost use Rattle.meaning.specs.Reply.{writtenOver};
 ghost use Rattle.records.specs.Plain.{noSteps, stepIn, stepsOf, Added, Gathered};
 use meaning::Step;
+
+pub mod rows;
 
 // Up to 33 steps as plain numbers, three to a step: first, last, entry.
 pub struct Plain {
