@@ -7,7 +7,7 @@ ghost use mathlib.Core.Path.{_≡_};
 ghost use lib.ListN.{length};
 ghost use Rattle.meaning.specs.Reply.{checkedReply, scoredReply, scoreProposal, Decodes};
 ghost use Rattle.meaning.specs.Round.{asRecords, decodeRound, roundRefusal, directionsOf, RoundLists};
-ghost use Rattle.rounds.specs.Rows.{lentRecords};
+ghost use Rattle.round_rows.specs.Rows.{lentRecords};
 
 // "Scoring a proposed list", of any length: questions 2 to 6, 9, 10 and 16 to 19, and where none refuses the score of the steps and the four counts of
 // ticket 3. The first 33 records decide: of 32 words none is left for the 33rd.
@@ -51,7 +51,7 @@ pub fn decode_round(
     ensures { λ r. ⌜ checkedReply r ≡ decodeRound (now (book .entry)) (now (directions .entry)) (now (ends .entry)) (lentRecords (length (now (steps .entry))) (now (words .entry)) (now (store .entry))) (length (now (answers .entry))) ⌝ }
     ensures { λ _. ⌜ RoundLists asRecords (roundRefusal (now (book .entry)) (now (directions .entry)) (now (ends .entry)) (lentRecords (length (now (steps .entry))) (now (words .entry)) (now (store .entry))) (length (now (answers .entry)))) (now (book .entry)) (directionsOf (now (directions .entry)) (now (ends .entry))) width (now (steps .entry)) (now (steps .exit)) (now (words .entry)) (now (words .exit)) (now (store .entry)) (now (store .exit)) (now (answers .entry)) (now (answers .exit)) ⌝ }
 {
-    let answer = rounds::rows::decode_rows(
+    let answer = round_rows::decode_rows(
         book,
         directions,
         ends,

@@ -12,8 +12,6 @@ ghost use Rattle.meaning.specs.Reply.{checkedReply};
 ghost use Rattle.meaning.specs.Round.{decodeRound, roundRefusal, directionsOf, RoundLists};
 ghost use Rattle.lists.specs.Steps.{asNumbers, lentNumbers};
 
-pub mod rows;
-
 // Decodes the directions that the ends mark in the list, one after the other: direction k on the 96 numbers for steps and the 256 words that follow those
 // of direction k - 1, and its answer in the next nine numbers. The store is gone through once, before the first search. A refused round changes no list.
 pub fn decode_round(

@@ -45,24 +45,24 @@ use Rattle.meaning.specs.declared.Checked.{Checked}
 use Rattle.meaning.specs.Reply.{checkedReply}
 use Rattle.meaning.specs.Round.{asRecords, decodeRound, roundRefusal, directionsOf, RoundLists}
 use Rattle.records.specs.Rows.{rowsOf, putOver}
-use Rattle.rounds.specs.declared.rows.RowsReply.{RowsReply as Answer}
-use Rattle.rounds.specs.Rows.{lentRecords, DecodesRows}
+use Rattle.round_rows.specs.declared.RowsReply.{RowsReply as Answer}
+use Rattle.round_rows.specs.Rows.{lentRecords, DecodesRows}
 use Rattle.records.proofs.Walk.{tyAt}
 use Rattle.meaning.proofs.Step as T
 use Rattle.meaning.proofs.Checked as R
 use Rattle.meaning.proofs.Checked.Laws as R′
 use Rattle.records.proofs.rows.Rows as P
 use Rattle.records.proofs.rows.Rows.Laws as P′
-use Rattle.rounds.proofs.rows.RowsReply as S
-use Rattle.rounds.proofs.rows.RowsReply.Laws as S′
+use Rattle.round_rows.proofs.RowsReply as S
+use Rattle.round_rows.proofs.RowsReply.Laws as S′
 use Rattle.records.proofs.rows.put_over as p
 use Rattle.records.proofs.rows.put_over.Symbol as p-def
 use Rattle.records.proofs.rows.put_over.Symbol.{name as #records·put-over}
 use Rattle.records.proofs.rows.put_over.Met as p-thm
-use Rattle.rounds.proofs.rows.decode_rows as g
-use Rattle.rounds.proofs.rows.decode_rows.Symbol as g-def
-use Rattle.rounds.proofs.rows.decode_rows.Symbol.{name as #decode·rows}
-use Rattle.rounds.proofs.rows.decode_rows.Met as g-thm
+use Rattle.round_rows.proofs.decode_rows as g
+use Rattle.round_rows.proofs.decode_rows.Symbol as g-def
+use Rattle.round_rows.proofs.decode_rows.Symbol.{name as #decode·rows}
+use Rattle.round_rows.proofs.decode_rows.Met as g-thm
 use Rattle.phrase.proofs.decode_round.Key.{name as #this}
 use Rattle.phrase.proofs.decode_round as f
 use Rattle.phrase.proofs.decode_round.Statement as stated
@@ -314,5 +314,5 @@ decode-round-spec 𝓤 H 𝓜 𝓖 𝓡 =
     entered 𝓤 H (tripleOf 𝓤 H (𝓖 .A) f.signature (f.spec 𝓤 H (𝓖 .A) (𝓜 .mem) (𝓡 .run)))
     (tables 𝓤 H 𝓜 𝓡 code.env .C) (tables 𝓤 H 𝓜 𝓡 code.env .Λ) #this code.function (code.unfolded 𝓤 H 𝓜 𝓡)
     (meets 𝓤 H (𝓖 .A) (givenOf 𝓤 H 𝓜 𝓖) (𝓜 .mem) (𝓡 .run) (tablesOf 𝓤 H 𝓜 (tables 𝓤 H 𝓜 𝓡 code.env))
-    (cited 𝓤 H (Core 𝓤 H (𝓖 .A) (𝓜 .mem) (𝓡 .run)) 𝓜 𝓡 code.env #decode·rows g-def.routine code.calls-rounds·rows·decode-rows (g-thm.met 𝓤 H 𝓜 𝓖 𝓡))
+    (cited 𝓤 H (Core 𝓤 H (𝓖 .A) (𝓜 .mem) (𝓡 .run)) 𝓜 𝓡 code.env #decode·rows g-def.routine code.calls-round-rows·decode-rows (g-thm.met 𝓤 H 𝓜 𝓖 𝓡))
     (cited 𝓤 H (PutOver 𝓤 H (𝓖 .A) (𝓜 .mem) (𝓡 .run)) 𝓜 𝓡 code.env #records·put-over p-def.routine code.calls-records·rows·put-over (p-thm.met 𝓤 H 𝓜 𝓖 𝓡)))

@@ -8,7 +8,7 @@ use Rattle.meaning.specs.Reply.{checkedReply, Lent}
 use Rattle.meaning.specs.Round.{asRecords, decodeRound, roundRefusal, directionsOf, RoundLists}
 use Rattle.meaning.specs.declared.Step.{Step}
 use Rattle.records.specs.Rows.{rowsOf, putOver}
-use Rattle.rounds.specs.declared.rows.RowsReply.{RowsReply}
+use Rattle.round_rows.specs.declared.RowsReply.{RowsReply}
 
 -- what is lent, with a list of `room` step records
 abbrev pub lentRecords : ℕ → List ℕ → List ℤ → Lent

@@ -6,9 +6,9 @@ use lib.ListN.{length-replicate}
 use lib.Seq.{length-take-le}
 use mir.Facts.{toZ-ofZ}
 use borrow.Author.Needs.{needs}
-use Rattle.rounds.proofs.Spread.{decodes-rows}
-use Rattle.rounds.proofs.rows.decode_rows.Statement.{statement}
-use Rattle.rounds.proofs.rows.decode_rows.Tie as tie
+use Rattle.round_rows.proofs.Spread.{decodes-rows}
+use Rattle.round_rows.proofs.decode_rows.Statement.{statement}
+use Rattle.round_rows.proofs.decode_rows.Tie as tie
 
 -- src/rows.rt:34:28
 least-requires : tie.Need-least-requires

@@ -3,7 +3,7 @@ use meaning::Checked;
 use records::rows::Rows;
 ghost use mathlib.Core.Path.{_≡_};
 ghost use Prim.Native.Nat.{min};
-ghost use Rattle.rounds.specs.Rows.{DecodesRows};
+ghost use Rattle.round_rows.specs.Rows.{DecodesRows};
 
 // The steps of a round, and its reply.
 pub struct RowsReply {
@@ -33,7 +33,7 @@ pub fn decode_rows(
 {
     let count = least(32 * least(ends.len(), 64), room);
     let mut numbers = [0u16; 6144];
-    let reply = crate::decode_round(
+    let reply = rounds::decode_round(
         book,
         directions,
         ends,
