@@ -1,10 +1,12 @@
 // Calls 5, 6 and 8: scoring and decoding with step records, and the rendering.
 use case_line::line;
+use case_line::line::Number;
 use case_records::decoding;
+use case_records::decoding::Asked;
 use case_records::scoring;
 use case_reply::reply;
 use case_reply::say;
-ghost use Prim.Native.Nat.{_≤_};
+use meaning::Step;
 
 // 5: the book, the direction and the steps.
 pub fn score(text: &[u8], at: usize) {
@@ -24,16 +26,14 @@ pub fn score(text: &[u8], at: usize) {
 // each list are lent, and the number that the first place of each holds.
 struct Wish {
     width: i64,
-    room: usize,
-    words: usize,
-    store: usize,
+    room: Number,
+    words: Number,
+    store: Number,
     fill: u16,
 }
 
-// The wish at `at`, cut to the lists that there are.
-fn wish_of(text: &[u8], at: usize) -> Wish
-    ensures { λ r. ⌜ (r .room ≤ 1100) × ((r .words ≤ 2000) × (r .store ≤ 33000)) ⌝ }
-{
+// The wish at `at`.
+fn wish_of(text: &[u8], at: usize) -> Wish {
     let width = line::take_number(text, at);
     let room = line::take_number(text, width.end);
     let words = line::take_number(text, room.end);
@@ -41,38 +41,51 @@ fn wish_of(text: &[u8], at: usize) -> Wish
     let fill = line::take_number(text, store.end);
     Wish {
         width: line::as_i64(width),
-        room: line::at_most(room, 1100),
-        words: line::at_most(words, 2000),
-        store: line::at_most(store, 33000),
+        room,
+        words,
+        store,
         fill: line::as_u16(fill),
     }
 }
 
-// The decode, in lists that are full of garbage.
-fn decode_with(book: &[i32], direction: &[u16], wish: Wish)
-    requires { ⌜ (wish .room ≤ 1100) × ((wish .words ≤ 2000) × (wish .store ≤ 33000)) ⌝ }
-{
-    let fill = wish.fill;
-    let mut words = case_fill::words(fill);
-    let mut store = case_fill::store(fill);
-    let steps = case_fill::steps(fill);
-    let w = wish.words;
-    let s = wish.store;
-    let asked = decoding::ask(
+// The reply, with as many places of each list lent as are wished for and are there.
+fn ask(
+    book: &[i32],
+    direction: &[u16],
+    wish: Wish,
+    steps: [Step; 1100],
+    words: &mut [u16],
+    store: &mut [i64],
+) -> Asked {
+    let room = line::at_most(wish.room, 1100);
+    let w = line::at_most(wish.words, words.len());
+    let s = line::at_most(wish.store, store.len());
+    decoding::ask(
         book,
         direction,
         wish.width,
         steps,
-        wish.room,
+        room,
         &mut words[..w],
         &mut store[..s],
-    );
+    )
+}
+
+// The decode, in lists that are full of garbage.
+fn decode_with(book: &[i32], direction: &[u16], wish: Wish) {
+    let fill = wish.fill;
+    let mut words = [0u16; 2000];
+    let mut store = [0i64; 33000];
+    let steps = case_fill::steps(fill);
+    case_fill::words(&mut words, fill);
+    case_fill::numbers(&mut store, fill);
+    let asked = ask(book, direction, wish, steps, &mut words, &mut store);
     let answer = asked.reply;
     let after = asked.steps;
     reply::decoded(answer);
     case_show::steps(after, fill);
-    case_show::words(&words, fill);
-    case_show::store(&store, fill);
+    case_show::words(b" words", &words, fill);
+    case_show::numbers(b" store", &store, fill);
 }
 
 // 6: the book, the direction, and the wish.

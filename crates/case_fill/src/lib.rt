@@ -48,34 +48,26 @@ pub fn book(fill: u16) -> [i32; 41000]
     list
 }
 
-// A list for words, filled in the same way.
-pub fn words(fill: u16) -> [u16; 2000]
-    ensures { λ r. ⌜ 2000 ≡ length r ⌝ }
-{
-    let mut list = [fill; 2000];
+// The words, made those that count up from `fill`.
+pub fn words(list: &mut [u16], fill: u16) {
     let mut z = fill;
     let mut i: usize = 0;
-    while i < 2000 {
+    while i < list.len() {
         list[i] = z;
         z = after(z);
         i += 1;
     }
-    list
 }
 
-// A store, filled in the same way.
-pub fn store(fill: u16) -> [i64; 33000]
-    ensures { λ r. ⌜ 33000 ≡ length r ⌝ }
-{
-    let mut list = [0; 33000];
+// A store or answers, filled in the same way.
+pub fn numbers(list: &mut [i64], fill: u16) {
     let mut z = fill;
     let mut i: usize = 0;
-    while i < 33000 {
+    while i < list.len() {
         list[i] = wide_word(z);
         z = after(z);
         i += 1;
     }
-    list
 }
 
 // A list for steps, filled in the same way.

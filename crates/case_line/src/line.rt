@@ -20,17 +20,17 @@ pub struct Number {
 }
 
 // Where the reader of a list stands: the next item and, in a group, its first item, how many turns are left and the number that counts.
-struct Place {
-    at: usize,
+pub struct Place {
+    pub at: usize,
     first: usize,
     left: u64,
     counted: u64,
 }
 
 // An item of a list, and the place behind it.
-struct Item {
-    number: Number,
-    place: Place,
+pub struct Item {
+    pub number: Number,
+    pub place: Place,
 }
 
 // A list that was read: how many numbers, and the place behind it.
@@ -207,7 +207,7 @@ fn fewer(n: u64) -> u64 {
 }
 
 // The place from `at` on, in no group.
-fn begin(at: usize) -> Place {
+pub fn begin(at: usize) -> Place {
     Place {
         at,
         first: at,
@@ -217,7 +217,7 @@ fn begin(at: usize) -> Place {
 }
 
 // Behind the end of a group, where one stands here.
-fn behind_group(text: &[u8], at: usize) -> usize {
+pub fn behind_group(text: &[u8], at: usize) -> usize {
     if has(text, at, b')') {
         return behind(text, behind(text, at, b')'), b' ');
     }
@@ -287,7 +287,7 @@ fn item_at(text: &[u8], place: Place) -> Number {
 }
 
 // The next item of a list.
-fn take_item(text: &[u8], from: Place) -> Item {
+pub fn take_item(text: &[u8], from: Place) -> Item {
     let place = entered(text, turned(text, from));
     let number = item_at(text, place);
     Item {

@@ -1,9 +1,11 @@
 // Calls 1 to 4 and 7: reading and checking. Each reads what it is asked from its line, fills what it is to lend, and prints what it
 // was replied and what it lent.
 use case_line::line;
+use case_line::line::Number;
 use case_reply::reply;
 use case_reply::say;
 use loading::check;
+use meaning::Read;
 
 // 1: the text's bytes, the numbers that are expected (none, or those that the reading is to write), how many places are lent, and the
 // number that the first of them holds.
@@ -24,6 +26,12 @@ pub fn read_book(text: &[u8], at: usize) {
     case_show::book(&list, &expected[..k], word);
 }
 
+// The reply, with as many places of the list lent as are wished for and are there.
+fn ask_direction(bytes: &[u8], list: &mut [u16], places: Number) -> Read {
+    let m = line::at_most(places, list.len());
+    direction::read_direction(bytes, &mut list[..m])
+}
+
 // 2: the same of a direction, with no numbers expected.
 pub fn read_direction(text: &[u8], at: usize) {
     let mut bytes = [0u8; 120000];
@@ -31,12 +39,11 @@ pub fn read_direction(text: &[u8], at: usize) {
     let n = row.count;
     let places = line::take_number(text, row.end);
     let fill = line::take_number(text, places.end);
-    let m = line::at_most(places, 2000);
     let word = line::as_u16(fill);
-    let mut list = case_fill::words(word);
-    let answer = direction::read_direction(&bytes[..n], &mut list[..m]);
-    reply::read(answer);
-    case_show::words(&list, word);
+    let mut list = [0u16; 2000];
+    case_fill::words(&mut list, word);
+    reply::read(ask_direction(&bytes[..n], &mut list, places));
+    case_show::words(b" words", &list, word);
 }
 
 // 3: the book.

@@ -163,9 +163,9 @@ pub fn book(list: &[i32; 41000], expected: &[i32], fill: u16) {
     put(run);
 }
 
-// The list of words.
-pub fn words(list: &[u16; 2000], fill: u16) {
-    say::word(b" words");
+// A list of words, behind its name.
+pub fn words(name: &[u8], list: &[u16], fill: u16) {
+    say::word(name);
     let mut run = Run {
         kept: false,
         value: 0,
@@ -173,7 +173,7 @@ pub fn words(list: &[u16; 2000], fill: u16) {
     };
     let mut z = fill;
     let mut i: usize = 0;
-    while i < 2000 {
+    while i < list.len() {
         run = next(run, wide_word(z), wide_word(list[i]));
         z = after(z);
         i += 1;
@@ -181,9 +181,9 @@ pub fn words(list: &[u16; 2000], fill: u16) {
     put(run);
 }
 
-// The store.
-pub fn store(list: &[i64; 33000], fill: u16) {
-    say::word(b" store");
+// A store or answers, in the same way.
+pub fn numbers(name: &[u8], list: &[i64], fill: u16) {
+    say::word(name);
     let mut run = Run {
         kept: false,
         value: 0,
@@ -191,7 +191,7 @@ pub fn store(list: &[i64; 33000], fill: u16) {
     };
     let mut z = fill;
     let mut i: usize = 0;
-    while i < 33000 {
+    while i < list.len() {
         run = next(run, wide_word(z), list[i]);
         z = after(z);
         i += 1;

@@ -1,4 +1,4 @@
--- Each place is filled in turn, and the array stays as long as it is; the measure is how many are left.
+-- Each place is filled in turn, and the list stays as long as it was; the measure is how many are left.
 use mathlib.Core.Path.{_≡_}
 use native.Mathlib.Omega.{arith}
 use lib.ListN.{length, length-set}
@@ -8,10 +8,10 @@ use Rattle.case_fill.proofs.words.Statement.{statement}
 use Rattle.case_fill.proofs.words.Tie as tie
 
 abbrev Inv-loop : tie.InvT-loop
-Inv-loop fill list₀ z₀ i₀ list z i = length list ≡ 2000
+Inv-loop list₀ fill z₀ i₀ list z i = length list ≡ length list₀
 
 abbrev μ-loop : tie.MeasureT-loop
-μ-loop fill list₀ z₀ i₀ list z i = 2000 - i
+μ-loop list₀ fill z₀ i₀ list z i = length list₀ - i
 
 loop-holds : tie.Need-loop-holds Inv-loop μ-loop
 loop-holds c = search needs
@@ -19,8 +19,8 @@ loop-holds c = search needs
 mul-list : tie.Need-mul-list Inv-loop μ-loop
 mul-list c = search needs
 
-array-write-list : tie.Need-array-write-list Inv-loop μ-loop
-array-write-list c = search needs
+slice-write-list : tie.Need-slice-write-list Inv-loop μ-loop
+slice-write-list c = search needs
 
 after-requires : tie.Need-after-requires Inv-loop μ-loop
 after-requires c κs = search needs
@@ -34,8 +34,11 @@ loop-less c = search needs
 loop-again : tie.Need-loop-again Inv-loop μ-loop
 loop-again c = simp length-set (omega arith)
 
+same-length : tie.Need-same-length Inv-loop μ-loop
+same-length c = search needs
+
 returns : tie.Need-returns Inv-loop μ-loop
-returns c = omega arith
+returns c = search needs
 
 pub words-spec : {M : Type 1} → statement M
 words-spec =
@@ -45,9 +48,10 @@ words-spec =
     μ-loop
     loop-holds
     mul-list
-    array-write-list
+    slice-write-list
     after-requires
     add-i
     loop-less
     loop-again
+    same-length
     returns)

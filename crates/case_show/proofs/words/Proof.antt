@@ -1,17 +1,15 @@
 -- Each place is shown in turn; the measure is how many are left.
+use lib.ListN.{length}
 use Prim.Native.Nat.{_-_}
 use borrow.Author.Needs.{needs}
 use Rattle.case_show.proofs.words.Statement.{statement}
 use Rattle.case_show.proofs.words.Tie as tie
 
 abbrev Inv-loop : tie.InvT-loop
-Inv-loop list fill run₀ z₀ i₀ run z i = Unit {0}
+Inv-loop name list fill run₀ z₀ i₀ run z i = Unit {0}
 
 abbrev μ-loop : tie.MeasureT-loop
-μ-loop list fill run₀ z₀ i₀ run z i = 2000 - i
-
-slice-aggregate-word : tie.Need-slice-aggregate-word Inv-loop μ-loop
-slice-aggregate-word c = search needs
+μ-loop name list fill run₀ z₀ i₀ run z i = length list - i
 
 word-requires : tie.Need-word-requires Inv-loop μ-loop
 word-requires c κs = search needs
@@ -25,8 +23,8 @@ wide-word-requires c κs = search needs
 mul-wide-word : tie.Need-mul-wide-word Inv-loop μ-loop
 mul-wide-word c = search needs
 
-element-copy-out-wide-word : tie.Need-element-copy-out-wide-word Inv-loop μ-loop
-element-copy-out-wide-word c = search needs
+shared-slice-read-wide-word : tie.Need-shared-slice-read-wide-word Inv-loop μ-loop
+shared-slice-read-wide-word c = search needs
 
 wide-word-requires-2 : tie.Need-wide-word-requires-2 Inv-loop μ-loop
 wide-word-requires-2 c κs = search needs
@@ -58,12 +56,11 @@ words-spec =
     (tie.spec
     Inv-loop
     μ-loop
-    slice-aggregate-word
     word-requires
     loop-holds
     wide-word-requires
     mul-wide-word
-    element-copy-out-wide-word
+    shared-slice-read-wide-word
     wide-word-requires-2
     next-requires
     after-requires

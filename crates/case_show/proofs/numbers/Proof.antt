@@ -1,17 +1,15 @@
 -- Each place is shown in turn; the measure is how many are left.
+use lib.ListN.{length}
 use Prim.Native.Nat.{_-_}
 use borrow.Author.Needs.{needs}
-use Rattle.case_show.proofs.store.Statement.{statement}
-use Rattle.case_show.proofs.store.Tie as tie
+use Rattle.case_show.proofs.numbers.Statement.{statement}
+use Rattle.case_show.proofs.numbers.Tie as tie
 
 abbrev Inv-loop : tie.InvT-loop
-Inv-loop list fill run₀ z₀ i₀ run z i = Unit {0}
+Inv-loop name list fill run₀ z₀ i₀ run z i = Unit {0}
 
 abbrev μ-loop : tie.MeasureT-loop
-μ-loop list fill run₀ z₀ i₀ run z i = 33000 - i
-
-slice-aggregate-word : tie.Need-slice-aggregate-word Inv-loop μ-loop
-slice-aggregate-word c = search needs
+μ-loop name list fill run₀ z₀ i₀ run z i = length list - i
 
 word-requires : tie.Need-word-requires Inv-loop μ-loop
 word-requires c κs = search needs
@@ -25,8 +23,8 @@ wide-word-requires c κs = search needs
 mul-next : tie.Need-mul-next Inv-loop μ-loop
 mul-next c = search needs
 
-element-copy-out-next : tie.Need-element-copy-out-next Inv-loop μ-loop
-element-copy-out-next c = search needs
+shared-slice-copy-out-next : tie.Need-shared-slice-copy-out-next Inv-loop μ-loop
+shared-slice-copy-out-next c = search needs
 
 next-requires : tie.Need-next-requires Inv-loop μ-loop
 next-requires c κs = search needs
@@ -49,18 +47,17 @@ put-requires c κs = search needs
 returns : tie.Need-returns Inv-loop μ-loop
 returns c = search needs
 
-pub store-spec : {M : Type 1} → statement M
-store-spec =
+pub numbers-spec : {M : Type 1} → statement M
+numbers-spec =
     tie.close
     (tie.spec
     Inv-loop
     μ-loop
-    slice-aggregate-word
     word-requires
     loop-holds
     wide-word-requires
     mul-next
-    element-copy-out-next
+    shared-slice-copy-out-next
     next-requires
     after-requires
     add-i

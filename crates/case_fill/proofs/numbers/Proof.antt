@@ -1,17 +1,17 @@
--- Each place is filled in turn, and the array stays as long as it is; the measure is how many are left.
+-- Each place is filled in turn, and the list stays as long as it was; the measure is how many are left.
 use mathlib.Core.Path.{_≡_}
 use native.Mathlib.Omega.{arith}
 use lib.ListN.{length, length-set}
 use Prim.Native.Nat.{_-_}
 use borrow.Author.Needs.{needs}
-use Rattle.case_fill.proofs.store.Statement.{statement}
-use Rattle.case_fill.proofs.store.Tie as tie
+use Rattle.case_fill.proofs.numbers.Statement.{statement}
+use Rattle.case_fill.proofs.numbers.Tie as tie
 
 abbrev Inv-loop : tie.InvT-loop
-Inv-loop fill list₀ z₀ i₀ list z i = length list ≡ 33000
+Inv-loop list₀ fill z₀ i₀ list z i = length list ≡ length list₀
 
 abbrev μ-loop : tie.MeasureT-loop
-μ-loop fill list₀ z₀ i₀ list z i = 33000 - i
+μ-loop list₀ fill z₀ i₀ list z i = length list₀ - i
 
 loop-holds : tie.Need-loop-holds Inv-loop μ-loop
 loop-holds c = search needs
@@ -19,11 +19,11 @@ loop-holds c = search needs
 wide-word-requires : tie.Need-wide-word-requires Inv-loop μ-loop
 wide-word-requires c κs = search needs
 
-mul-list : tie.Need-mul-list Inv-loop μ-loop
-mul-list c = search needs
+mul-t5 : tie.Need-mul-t5 Inv-loop μ-loop
+mul-t5 c = search needs
 
-array-set-from-list : tie.Need-array-set-from-list Inv-loop μ-loop
-array-set-from-list c = search needs
+slice-set-from-list : tie.Need-slice-set-from-list Inv-loop μ-loop
+slice-set-from-list c = search needs
 
 after-requires : tie.Need-after-requires Inv-loop μ-loop
 after-requires c κs = search needs
@@ -37,21 +37,25 @@ loop-less c = search needs
 loop-again : tie.Need-loop-again Inv-loop μ-loop
 loop-again c = simp length-set (omega arith)
 
-returns : tie.Need-returns Inv-loop μ-loop
-returns c = omega arith
+same-length : tie.Need-same-length Inv-loop μ-loop
+same-length c = search needs
 
-pub store-spec : {M : Type 1} → statement M
-store-spec =
+returns : tie.Need-returns Inv-loop μ-loop
+returns c = search needs
+
+pub numbers-spec : {M : Type 1} → statement M
+numbers-spec =
     tie.close
     (tie.spec
     Inv-loop
     μ-loop
     loop-holds
     wide-word-requires
-    mul-list
-    array-set-from-list
+    mul-t5
+    slice-set-from-list
     after-requires
     add-i
     loop-less
     loop-again
+    same-length
     returns)

@@ -1,0 +1,132 @@
+// Call 12: a round's directions decoded together, with steps as numbers.
+use case_line::line;
+use case_line::line::Number;
+use case_line::line::Row;
+use case_reply::reply;
+use meaning::Checked;
+ghost use mathlib.Core.Path.{_≡_};
+ghost use Prim.Native.Nat.{_≤_};
+ghost use lib.ListN.{length, take};
+
+// A list of ends: how many, and each.
+fn take_ends(text: &[u8], at: usize, list: &mut [usize]) -> Row
+    ensures { λ r. ⌜ (r .count ≤ length (now (list .exit))) × (r .count ≡ length (take (r .count) (now (list .exit)))) ⌝ }
+{
+    let first = line::take_number(text, at);
+    let count = line::at_most(first, list.len());
+    let mut place = line::begin(first.end);
+    let mut i: usize = 0;
+    while i < count {
+        let item = line::take_item(text, place);
+        let number = item.number;
+        list[i] = number.size as usize;
+        place = item.place;
+        i += 1;
+    }
+    Row {
+        count,
+        end: line::behind_group(text, place.at),
+    }
+}
+
+// What is asked of a round beside the book, the directions and their ends: the width, how many places of each list are lent, and the
+// number that the first place of each holds.
+struct Wish {
+    width: i64,
+    steps: Number,
+    words: Number,
+    store: Number,
+    answers: Number,
+    fill: u16,
+}
+
+// The wish at `at`.
+fn wish_of(text: &[u8], at: usize) -> Wish {
+    let width = line::take_number(text, at);
+    let steps = line::take_number(text, width.end);
+    let words = line::take_number(text, steps.end);
+    let store = line::take_number(text, words.end);
+    let answers = line::take_number(text, store.end);
+    let fill = line::take_number(text, answers.end);
+    Wish {
+        width: line::as_i64(width),
+        steps,
+        words,
+        store,
+        answers,
+        fill: line::as_u16(fill),
+    }
+}
+
+// The reply, with as many places of each list lent as are wished for and are there.
+fn ask(
+    book: &[i32],
+    directions: &[u16],
+    ends: &[usize],
+    wish: Wish,
+    steps: &mut [u16],
+    words: &mut [u16],
+    store: &mut [i64],
+    answers: &mut [i64],
+) -> Checked {
+    let n = line::at_most(wish.steps, steps.len());
+    let w = line::at_most(wish.words, words.len());
+    let s = line::at_most(wish.store, store.len());
+    let a = line::at_most(wish.answers, answers.len());
+    rounds::decode_round(
+        book,
+        directions,
+        ends,
+        wish.width,
+        &mut steps[..n],
+        &mut words[..w],
+        &mut store[..s],
+        &mut answers[..a],
+    )
+}
+
+// The round, in lists that are full of garbage.
+fn decode_with(book: &[i32], directions: &[u16], ends: &[usize], wish: Wish) {
+    let fill = wish.fill;
+    let mut steps = [0u16; 6400];
+    let mut words = [0u16; 16700];
+    let mut store = [0i64; 33000];
+    let mut answers = [0i64; 600];
+    case_fill::words(&mut steps, fill);
+    case_fill::words(&mut words, fill);
+    case_fill::numbers(&mut store, fill);
+    case_fill::numbers(&mut answers, fill);
+    reply::checked(ask(
+        book,
+        directions,
+        ends,
+        wish,
+        &mut steps,
+        &mut words,
+        &mut store,
+        &mut answers,
+    ));
+    case_show::words(b" steps", &steps, fill);
+    case_show::words(b" words", &words, fill);
+    case_show::numbers(b" store", &store, fill);
+    case_show::numbers(b" answers", &answers, fill);
+}
+
+// 12: the book, the directions, their ends, and the wish.
+pub fn decode_round(text: &[u8], at: usize) {
+    let mut book = [0i32; 140000];
+    let mut directions = [0u16; 2600];
+    let mut ends = [0usize; 70];
+    let row = line::book(text, at, &mut book);
+    let n = row.count;
+    let words = line::direction(text, row.end, &mut directions);
+    let m = words.count;
+    let marks = take_ends(text, words.end, &mut ends);
+    let k = marks.count;
+    decode_with(
+        &book[..n],
+        &directions[..m],
+        &ends[..k],
+        wish_of(text, marks.end),
+    );
+}
