@@ -1,4 +1,4 @@
-// Decoding on plain numbers, with all that a search needs in local arrays: about 756,000 bytes of stack.
+// Decoding on plain numbers, with all that a search needs in local arrays: about 759,000 bytes of stack.
 use answer::PlainReply;
 use book::entries::INDEX_SIZE;
 use decoder::decode;

@@ -1,11 +1,14 @@
--- Nine numbers put over nine places, and what is known of the store.
-use Prim.Native.Nat.{ℕ}
+-- Nine numbers put over nine places, a decode's steps as numbers, and what is known of the store.
+use Prim.Native.Nat.{ℕ, zero, suc}
 use native.Mathlib.Omega.{arith}
 use mathlib.Core.Path.{_≡_, refl, sym, ap, _∙_}
 use mathlib.Core.Bool.{Bool, true, false, _||_, true≢false}
 use mathlib.Core.List.{List, [], _∷_}
 use lib.ListN.{length}
-use Rattle.meaning.specs.Reply.{filledWith}
+use Rattle.meaning.specs.Reply.{filledWith, writtenOver, writtenIf}
+use Rattle.meaning.specs.declared.Step.{Step}
+use Rattle.lists.specs.Steps.{numbersOf}
+use Rattle.decoder.specs.Decodes.{unlessRefused}
 
 -- a list over one of its length
 filled-all : {A : Type 0} (new old : List A) → length new ≡ length old → filledWith new old ≡ new
@@ -26,3 +29,8 @@ is-so false b e = absurd (true≢false (sym e))
 pub or-else : (a b : Bool) {r : Bool} → a ≡ false → r ≡ b → r ≡ a || b
 or-else true b e f = absurd (true≢false e)
 or-else false b e f = f
+
+-- the steps of a decode as numbers
+pub numbers-written : (k : ℕ) (steps : List Step) (old : List ℕ) → writtenOver (numbersOf (unlessRefused k steps)) old ≡ writtenIf k (numbersOf steps) old
+numbers-written zero steps old = refl
+numbers-written (suc k) steps old = refl

@@ -15,14 +15,15 @@ use Rattle.meaning.specs.declared.Step.{Step}
 use Rattle.meaning.proofs.Chains.{first-passes, done-passes}
 use Rattle.meaning.proofs.Demands.{refused-late}
 use Rattle.meaning.proofs.Lengths.{words-keep, answer-nine}
-use Rattle.meaning.proofs.Parts.{partOf, part-long, parts-next, parts-ahead, parts-long, endBefore, directions-count, direction-at, store-more, store-long}
+use Rattle.meaning.proofs.Parts.{partOf, part-long, parts-next, parts-ahead, endBefore, directions-count, direction-at, store-more, store-long}
 use Rattle.records.specs.Plain.{stepsOf}
 use Rattle.lists.specs.Steps.{numbersOf, decodedNumbers}
 use Rattle.lists.proofs.Rounds.{numbers-keep}
 use Rattle.clearing.specs.Swept.{Swept}
-use Rattle.decoder.specs.Decodes.{unlessRefused, PlainDecodes}
+use Rattle.decoder.specs.Decodes.{PlainDecodes}
 use Rattle.answer.specs.declared.PlainReply.{PlainReply}
 use Rattle.round_parts.specs.Told.{isSearched}
+use Rattle.round_parts.proofs.Telling.{numbers-written}
 
 -- ════ what one direction leaves
 
@@ -31,11 +32,6 @@ searched-begun : (loaded : List ℤ) (d : List ℕ) (width : ℤ) (lent : Lent) 
 unfolding decode decodeRefusal
 searched-begun loaded d width lent (done a) e s = first-passes (beforeSearch loaded d width lent) _ (done-passes (decodeRefusal loaded d width lent) _ a e)
 searched-begun loaded d width lent (refused k) e s = refused-late loaded d width lent k s e
-
--- the steps as numbers
-numbers-written : (k : ℕ) (steps : List Step) (old : List ℕ) → writtenOver (numbersOf (unlessRefused k steps)) old ≡ writtenIf k (numbersOf steps) old
-numbers-written zero steps old = refl
-numbers-written (suc k) steps old = refl
 
 zero-cleared : (k : ℕ) (store : List ℤ) → store ≡ replicate (length store) (pos 0) → clearedIf k store ≡ replicate (length store) (pos 0)
 zero-cleared zero store e = refl

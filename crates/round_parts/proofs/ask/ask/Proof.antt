@@ -1,11 +1,7 @@
 -- The questions in their order.
-use native.Mathlib.Omega.{arith}
-use mathlib.Core.Path.{_≡_, refl, sym, _∙_}
-use mathlib.Core.Bool.{true, false}
+use mathlib.Core.Path.{refl, sym, _∙_}
 use borrow.Author.Tests.{not-true, not-false}
-use lib.ListN.{length}
 use Rattle.laws.proofs.Tests.{between}
-use Rattle.meaning.specs.Questions.{within}
 use borrow.Author.Needs.{needs}
 use Rattle.round_parts.proofs.ask.ask.Statement.{statement}
 use Rattle.round_parts.proofs.ask.ask.Tie as tie

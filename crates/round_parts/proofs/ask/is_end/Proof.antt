@@ -2,7 +2,7 @@
 use mathlib.Core.Path.{refl, sym, ap}
 use mathlib.Core.Bool.{Bool, _&&_}
 use borrow.Author.Tests.{lt-ltb, le-ltb}
-use lib.Dec.{leb, ltb}
+use lib.Dec.{leb}
 use Rattle.round_parts.proofs.ask.is_end.Statement.{statement}
 use Rattle.round_parts.proofs.ask.is_end.Tie as tie
 use Rattle.round_parts.proofs.ask.is_end.Reads as reads

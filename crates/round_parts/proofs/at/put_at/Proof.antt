@@ -2,8 +2,6 @@
 use Prim.Native.Nat.{ℕ, _*_, _≤_}
 use native.Mathlib.Omega.{arith}
 use mathlib.Core.Path.{_≡_, ap, _∙_}
-use mathlib.Core.List.{List}
-use lib.IntN.{ℤ}
 use Rattle.meaning.specs.Reply.{writtenOver}
 use Rattle.records.specs.Plain.{stepsOf}
 use Rattle.lists.specs.Steps.{numbersOf}

@@ -1,5 +1,4 @@
 -- An answer, or the refusal's number.
-use Prim.Native.Nat.{ℕ}
 use mathlib.Core.Path.{sym, ap, _∙_}
 use Rattle.meaning.specs.Questions.{isOfSearch}
 use Rattle.meaning.specs.Reply.{decodedReply}

@@ -1,10 +1,9 @@
 -- The eight numbers of a report behind 0, or eight zeros behind the refusal.
 use native.Mathlib.Omega.{arith}
-use mathlib.Core.Path.{refl, sym, ap, _∙_, subst}
-use mathlib.Core.List.{List, [], _∷_}
+use mathlib.Core.Path.{sym, ap, _∙_, subst}
+use mathlib.Core.List.{_∷_}
 use lib.IntN.{ℤ, pos}
 use lib.ListN.{replicate, getD}
-use Rattle.meaning.specs.Questions.{number}
 use Rattle.meaning.specs.Reply.{decodedReply}
 use Rattle.meaning.specs.Round.{answerNumbers}
 use Rattle.meaning.specs.declared.Decoded.{Decoded}
