@@ -1,9 +1,12 @@
-// Call 12: a round's directions decoded together, with steps as numbers.
+// Calls 12 and 13: a round's directions decoded together, with steps as numbers and with step records.
 use case_line::line;
 use case_line::line::Number;
 use case_line::line::Row;
+use case_records::rounding;
+use case_records::rounding::AskedRound;
 use case_reply::reply;
 use meaning::Checked;
+use meaning::Step;
 ghost use mathlib.Core.Path.{_≡_};
 ghost use Prim.Native.Nat.{_≤_};
 ghost use lib.ListN.{length, take};
@@ -85,35 +88,123 @@ fn ask(
     )
 }
 
-// The round, in lists that are full of garbage.
-fn decode_with(book: &[i32], directions: &[u16], ends: &[usize], wish: Wish) {
+// The same with step records, and the records afterwards.
+fn ask_records(
+    book: &[i32],
+    directions: &[u16],
+    ends: &[usize],
+    wish: Wish,
+    steps: [Step; 1100],
+    words: &mut [u16],
+    store: &mut [i64],
+    answers: &mut [i64],
+) -> AskedRound {
+    let room = line::at_most(wish.steps, 1100);
+    let w = line::at_most(wish.words, words.len());
+    let s = line::at_most(wish.store, store.len());
+    let a = line::at_most(wish.answers, answers.len());
+    rounding::ask(
+        book,
+        directions,
+        ends,
+        wish.width,
+        steps,
+        room,
+        &mut words[..w],
+        &mut store[..s],
+        &mut answers[..a],
+    )
+}
+
+// The round with steps as numbers: what is replied, and the steps.
+fn with_numbers(
+    book: &[i32],
+    directions: &[u16],
+    ends: &[usize],
+    wish: Wish,
+    words: &mut [u16],
+    store: &mut [i64],
+    answers: &mut [i64],
+) {
     let fill = wish.fill;
     let mut steps = [0u16; 6400];
-    let mut words = [0u16; 16700];
-    let mut store = [0i64; 33000];
-    let mut answers = [0i64; 600];
     case_fill::words(&mut steps, fill);
-    case_fill::words(&mut words, fill);
-    case_fill::numbers(&mut store, fill);
-    case_fill::numbers(&mut answers, fill);
     reply::checked(ask(
         book,
         directions,
         ends,
         wish,
         &mut steps,
+        words,
+        store,
+        answers,
+    ));
+    case_show::words(b" steps", &steps, fill);
+}
+
+// The same with step records.
+fn with_records(
+    book: &[i32],
+    directions: &[u16],
+    ends: &[usize],
+    wish: Wish,
+    words: &mut [u16],
+    store: &mut [i64],
+    answers: &mut [i64],
+) {
+    let fill = wish.fill;
+    let steps = case_fill::steps(fill);
+    let asked = ask_records(book, directions, ends, wish, steps, words, store, answers);
+    let answer = asked.reply;
+    let after = asked.steps;
+    reply::checked(answer);
+    case_show::steps(after, fill);
+}
+
+// The round with the one or the other.
+fn with_either(
+    book: &[i32],
+    directions: &[u16],
+    ends: &[usize],
+    wish: Wish,
+    records: bool,
+    words: &mut [u16],
+    store: &mut [i64],
+    answers: &mut [i64],
+) {
+    if records {
+        with_records(book, directions, ends, wish, words, store, answers);
+    } else {
+        with_numbers(book, directions, ends, wish, words, store, answers);
+    }
+}
+
+// The round, in lists that are full of garbage.
+fn decode_with(book: &[i32], directions: &[u16], ends: &[usize], wish: Wish, records: bool) {
+    let fill = wish.fill;
+    let mut words = [0u16; 16700];
+    let mut store = [0i64; 33000];
+    let mut answers = [0i64; 600];
+    case_fill::words(&mut words, fill);
+    case_fill::numbers(&mut store, fill);
+    case_fill::numbers(&mut answers, fill);
+    with_either(
+        book,
+        directions,
+        ends,
+        wish,
+        records,
         &mut words,
         &mut store,
         &mut answers,
-    ));
-    case_show::words(b" steps", &steps, fill);
+    );
     case_show::words(b" words", &words, fill);
     case_show::numbers(b" store", &store, fill);
     case_show::numbers(b" answers", &answers, fill);
 }
 
-// 12: the book, the directions, their ends, and the wish.
-pub fn decode_round(text: &[u8], at: usize) {
+// The book, the directions, their ends, and the wish.
+fn decode(text: &[u8], at: usize, records: bool) {
     let mut book = [0i32; 140000];
     let mut directions = [0u16; 2600];
     let mut ends = [0usize; 70];
@@ -128,5 +219,16 @@ pub fn decode_round(text: &[u8], at: usize) {
         &directions[..m],
         &ends[..k],
         wish_of(text, marks.end),
+        records,
     );
+}
+
+// 12: the round with steps as numbers.
+pub fn decode_round(text: &[u8], at: usize) {
+    decode(text, at, false);
+}
+
+// 13: the same with step records.
+pub fn decode_round_records(text: &[u8], at: usize) {
+    decode(text, at, true);
 }

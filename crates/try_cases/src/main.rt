@@ -13,6 +13,7 @@
 //     10 LIST used entry fill    remove an entry, in the same way
 //     11 TEXT TEXT LIST used fill    import an ARPA text through a word list, in the same way
 //     12 BOOK DIRECTIONS ENDS width steps words store answers fill    decode a round, steps as numbers
+//     13 BOOK DIRECTIONS ENDS width steps words store answers fill    the same with records
 //
 // `places`, `steps`, `words`, `store` and `answers` say how many places are lent, `fill` what the first place of each list holds
 // (`case_fill`). To add cases, add lines to `stdin`, and write `stdout` by the second decoder's program `cases`.
@@ -35,6 +36,7 @@ fn call(text: &[u8], at: usize, number: u64) {
         10 => case_revising::remove_entry(text, at),
         11 => case_importing::import_arpa(text, at),
         12 => case_rounds::decode_round(text, at),
+        13 => case_rounds::decode_round_records(text, at),
         _ => say::word(b"no such call"),
     }
 }

@@ -27,7 +27,7 @@ pub const STEPS: usize = 1_100;
 pub const ROUND: usize = 2_600;
 pub const ENDS: usize = 70;
 pub const ROUND_STEPS: usize = 6_400;
-pub const ROUND_RECORDS: usize = 2_100;
+pub const ROUND_RECORDS: usize = 1_100;
 pub const ROUND_WORDS: usize = 16_700;
 pub const ANSWERS: usize = 600;
 /// What the rendering program takes, and one byte more; the bytes that it may print.

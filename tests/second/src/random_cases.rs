@@ -12,7 +12,7 @@ use crate::Step;
 use std::fmt::Display;
 
 /// Are rounds with step records, call 13, asked too?
-pub const WITH_ROUND_RECORDS: bool = false;
+pub const WITH_ROUND_RECORDS: bool = true;
 
 /// The lines made so far, and how many inputs the program has no room for: those are left out.
 #[derive(Default)]
@@ -143,7 +143,9 @@ impl Calls for Lines {
     fn round(&mut self, rng: &mut Rng, case: &RoundCase) {
         self.add_round(rng, case, 12, (case.steps_len, ROUND_STEPS));
         if WITH_ROUND_RECORDS {
-            self.add_round(rng, case, 13, (case.steps_len / 3, ROUND_RECORDS));
+            // The program has records for 34 directions; of more it is answered 12.
+            let records = (case.steps_len / 3).min(ROUND_RECORDS);
+            self.add_round(rng, case, 13, (records, ROUND_RECORDS));
         }
     }
     /// A reading of the text, held to the edited book; what else is asked of that book has lines of its own.

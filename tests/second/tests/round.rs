@@ -600,13 +600,13 @@ fn as_a_case() {
         assert!(hold(&line, &other, 0).is_err(), "{other}");
     }
     let line = format!("r|{RECORDS}");
-    let printed = format!("r: passed steps 1.1.1 ~2099 {words}");
+    let printed = format!("r: passed steps 1.1.1 ~1099 {words}");
     assert_eq!(line_said(&line).text, printed);
     let mut round = round_of(&line).expect("a round");
     assert_eq!((round.steps_len, &round.ends[..]), (192, &[1, 2][..]));
     round.book.clear();
     assert_eq!(codes(&round), Err(3));
     let refused = line.replace(" 64 512", " 63 512");
-    let said = "r: R,12 steps ~2100 words ~16700 store ~33000 answers ~600";
+    let said = "r: R,12 steps ~1100 words ~16700 store ~33000 answers ~600";
     assert_eq!(line_said(&refused).text, said);
 }
