@@ -5,34 +5,39 @@ ghost use mathlib.Core.Path.{_≡_};
 ghost use Prim.Native.Nat.{_≤_};
 ghost use lib.ListN.{drop};
 
+// The width, and how many of the steps are lent.
+pub struct Asking {
+    pub width: i64,
+    pub room: usize,
+}
+
 // What the round replies, and the steps afterwards.
 pub struct AskedRound {
     pub reply: Checked,
     pub steps: [Step; 1100],
 }
 
-// The reply with the first `room` of the steps lent, and the steps afterwards.
+// The reply with the first of the steps lent, and the steps afterwards.
 pub fn ask(
     book: &[i32],
     directions: &[u16],
     ends: &[usize],
-    width: i64,
+    asking: Asking,
     steps: [Step; 1100],
-    room: usize,
     words: &mut [u16],
     store: &mut [i64],
     answers: &mut [i64],
 ) -> AskedRound
-    requires { ⌜ room ≤ 1100 ⌝ }
-    ensures { λ r. ⌜ drop room (r .steps) ≡ drop room steps ⌝ }
+    requires { ⌜ asking .room ≤ 1100 ⌝ }
+    ensures { λ r. ⌜ drop (asking .room) (r .steps) ≡ drop (asking .room) steps ⌝ }
 {
     let mut lent = steps;
     let reply = phrase::decode_round(
         book,
         directions,
         ends,
-        width,
-        &mut lent[..room],
+        asking.width,
+        &mut lent[..asking.room],
         words,
         store,
         answers,

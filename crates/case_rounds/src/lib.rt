@@ -4,6 +4,7 @@ use case_line::line::Number;
 use case_line::line::Row;
 use case_records::rounding;
 use case_records::rounding::AskedRound;
+use case_records::rounding::Asking;
 use case_reply::reply;
 use meaning::Checked;
 use meaning::Step;
@@ -107,9 +108,11 @@ fn ask_records(
         book,
         directions,
         ends,
-        wish.width,
+        Asking {
+            width: wish.width,
+            room,
+        },
         steps,
-        room,
         &mut words[..w],
         &mut store[..s],
         &mut answers[..a],
@@ -203,8 +206,8 @@ fn decode_with(book: &[i32], directions: &[u16], ends: &[usize], wish: Wish, rec
     case_show::numbers(b" answers", &answers, fill);
 }
 
-// The book, the directions, their ends, and the wish.
-fn decode(text: &[u8], at: usize, records: bool) {
+// 12, and 13 with step records: the book, the directions, their ends, and the wish.
+pub fn decode_round(text: &[u8], at: usize, records: bool) {
     let mut book = [0i32; 140000];
     let mut directions = [0u16; 2600];
     let mut ends = [0usize; 70];
@@ -221,14 +224,4 @@ fn decode(text: &[u8], at: usize, records: bool) {
         wish_of(text, marks.end),
         records,
     );
-}
-
-// 12: the round with steps as numbers.
-pub fn decode_round(text: &[u8], at: usize) {
-    decode(text, at, false);
-}
-
-// 13: the same with step records.
-pub fn decode_round_records(text: &[u8], at: usize) {
-    decode(text, at, true);
 }

@@ -35,8 +35,8 @@ fn call(text: &[u8], at: usize, number: u64) {
         9 => case_revising::add_entry(text, at),
         10 => case_revising::remove_entry(text, at),
         11 => case_importing::import_arpa(text, at),
-        12 => case_rounds::decode_round(text, at),
-        13 => case_rounds::decode_round_records(text, at),
+        12 => case_rounds::decode_round(text, at, false),
+        13 => case_rounds::decode_round(text, at, true),
         _ => say::word(b"no such call"),
     }
 }

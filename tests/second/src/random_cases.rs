@@ -143,7 +143,7 @@ impl Calls for Lines {
     fn round(&mut self, rng: &mut Rng, case: &RoundCase) {
         self.add_round(rng, case, 12, (case.steps_len, ROUND_STEPS));
         if WITH_ROUND_RECORDS {
-            // The program has records for 34 directions; of more it is answered 12.
+            // The program has records for 34 directions; more are answered 12.
             let records = (case.steps_len / 3).min(ROUND_RECORDS);
             self.add_round(rng, case, 13, (records, ROUND_RECORDS));
         }
