@@ -185,7 +185,7 @@ pub extern "C" fn phrase_decode_round(
     ensures { λ _. ⌜ RoundLists asNumbers (roundRefusal (now (book .entry)) (now (directions .entry)) (now (ends .entry)) (lentNumbers (now (steps .entry)) (now (words .entry)) (now (store .entry))) (length (now (answers .entry)))) (now (book .entry)) (directionsOf (now (directions .entry)) (now (ends .entry))) width (now (steps .entry)) (now (steps .exit)) (now (words .entry)) (now (words .exit)) (now (store .entry)) (now (store .exit)) (now (answers .entry)) (now (answers .exit)) ⌝ }
 {
     match rounds::decode_round(book, directions, ends, width, steps, words, store, answers) {
-        Checked::Passed => 0,
+        Checked::Passed => 0i32,
         Checked::Refused(refusal) => code_of(refusal),
     }
 }
