@@ -11,3 +11,4 @@ pub mod Reply
 pub mod Revision
 pub mod Round
 pub mod Render
+pub mod Sheet
