@@ -15,7 +15,7 @@ use Rattle.laws.specs.Bits.{one}
 use Rattle.laws.specs.Integers.{eqℤ}
 use Rattle.laws.specs.Lists.{count, keep, numbersFrom, sumℤ}
 use Rattle.laws.proofs.Lists.{getD-mem, keep-++, keep-mem, mem-keep, mem-numbers, numbers-mem, count-cons}
-use Rattle.laws.proofs.Tests.{by-test}
+use Rattle.laws.proofs.Tests.{by-test, if-ind}
 use Rattle.meaning.specs.Sheet.{Row, Line, directionLine, directionLines, countOf, largest, occurred, answerLine, totalLine, sheetLines}
 
 -- ════ the parts of a sheet
@@ -158,19 +158,21 @@ counts-row (first ∷ rows) answer l =
     by-test (eqb (first .answer) answer) (λ t. (first, List·Memᴰ·head refl, eqb-true (first .answer) answer t))
     (λ f. let r = counts-row rows answer (rw f at l) in (r .0, List·Memᴰ·tail (r .1), r .2))
 
--- those that pass a test of rising numbers rise
-keep-rises : (test : ℕ → Bool) (from many i j : ℕ) → i < j → j < length (keep test (numbersFrom from many)) → getD (keep test (numbersFrom from many)) i 0 < getD (keep test (numbersFrom from many)) j 0
-keep-rises test from zero i j l h = absurd (omega arith)
-keep-rises test from (suc many) i j l h =
-    by-test (test from) (λ t. rw t (first i j l (rw t at h))) (λ f. rw f (keep-rises test (suc from) many i j l (rw f at h)))
-  where
-    abbrev rest : List ℕ
-    rest = keep test (numbersFrom (suc from) many)
+-- each is below those behind it
+abbrev pub Rising : List ℕ → Type 0
+Rising xs = (i j : ℕ) → i < j → j < length xs → getD xs i 0 < getD xs j 0
 
-    first : (i j : ℕ) → i < j → j < suc (length rest) → getD (from ∷ rest) i 0 < getD (from ∷ rest) j 0
-    first i zero l h = absurd (omega arith)
-    first zero (suc j) l h = omega (arith, numbers-mem (suc from) many (getD rest j 0) (keep-mem test (numbersFrom (suc from) many) (getD-mem rest j 0 (omega arith)) .0))
-    first (suc i) (suc j) l h = keep-rises test (suc from) many i j (omega arith) (omega arith)
+-- one that is below all of them, before them
+rising-first : (x : ℕ) (xs : List ℕ) → ((k : ℕ) → k < length xs → x < getD xs k 0) → Rising xs → Rising (x ∷ xs)
+rising-first x xs below r i zero l h = absurd (omega arith)
+rising-first x xs below r zero (suc j) l h = below j (omega arith)
+rising-first x xs below r (suc i) (suc j) l h = r i j (omega arith) (omega arith)
+
+keep-rises : (test : ℕ → Bool) (from many : ℕ) → Rising (keep test (numbersFrom from many))
+keep-rises test from zero = λ i j l h. absurd (omega arith)
+keep-rises test from (suc many) =
+    let later = numbersFrom (suc from) many in let rest = keep test later in let r = keep-rises test (suc from) many in
+    if-ind (test from) Rising (λ t. rising-first from rest (λ k l. omega (arith, numbers-mem (suc from) many (getD rest k 0) (keep-mem test later (getD-mem rest k 0 l) .0))) r) (λ f. r)
 
 module _ (rows : List Row) where
   -- "for each answer that occurred": the E lines' answers are these
@@ -187,7 +189,7 @@ module _ (rows : List Row) where
     (lt-ltb 0 (countOf rows answer) (subst (λ (k : ℕ). 0 < countOf rows k) (r .2) (row-counts rows (r .0) (r .1)))),
   )
 
-  -- "rising": each is below those behind it, so none is there twice
-  pub sheet-rising : (i j : ℕ) → i < j → j < length (occurred rows) → getD (occurred rows) i 0 < getD (occurred rows) j 0
+  -- "rising": so none is there twice
+  pub sheet-rising : Rising (occurred rows)
   unfolding occurred
-  sheet-rising i j l h = keep-rises (isCounted rows) 0 (suc (largest rows)) i j l h
+  sheet-rising = keep-rises (isCounted rows) 0 (suc (largest rows))
