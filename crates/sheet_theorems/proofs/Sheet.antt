@@ -1,15 +1,15 @@
 -- Ticket 8, the lines of a sheet, said of its own lines and for every list of rows. Its parts are the N lines, the E lines and the Z line (`n-lines`, `e-lines`, `z-line`);
 -- the N lines are the rows in their order (`sheet-direction`); the E lines are of the answers that occurred (`sheet-occurred`), rising (`sheet-rising`), each with its count
 -- (`sheet-counts`), and the counts add up (`sheet-adds-up`); the Z line is the N lines' number and sums (`sheet-total`).
-use Prim.Native.Nat.{ℕ, zero, suc, _+_, _≤_, _<_, max}
+use Prim.Native.Nat.{ℕ, zero, suc, _+_, _≤_, _<_}
 use native.Mathlib.Omega.{arith}
 use mathlib.Core.Path.{_≡_, refl, sym, ap, subst, _∙_}
-use mathlib.Core.Bool.{Bool, true, false}
+use mathlib.Core.Bool.{Bool, false}
 use mathlib.Core.Logic.{_↔_}
 use mathlib.Core.List.{List, [], _∷_, _++_, map, map-map, append-nil, List·Memᴰ, List·Memᴰ·head, List·Memᴰ·tail}
-use borrow.Author.Tests.{eqb-true, eq-eqb, ne-eqb, ltb-true, ltb-false, lt-ltb}
+use borrow.Author.Tests.{eqb-true, eq-eqb, ne-eqb, eqb-false, ltb-true, ltb-false, lt-ltb}
 use lib.Dec.{eqb, ltb}
-use lib.IntN.{ℤ, pos, _+ℤ_}
+use lib.IntN.{ℤ, pos}
 use lib.ListN.{length, getD}
 use Rattle.laws.specs.Bits.{one}
 use Rattle.laws.specs.Integers.{eqℤ}
@@ -185,11 +185,77 @@ module _ (rows : List Row) where
   sheet-occurred answer = (
     λ m. counts-row rows answer (ltb-true 0 (countOf rows answer) (keep-mem (isCounted rows) (numbersFrom 0 (suc (largest rows))) m .1)),
     λ r. mem-keep (isCounted rows) (numbersFrom 0 (suc (largest rows)))
-    (subst (λ (k : ℕ). List·Memᴰ k (numbersFrom 0 (suc (largest rows)))) (omega (arith, r .2)) (mem-numbers 0 (suc (largest rows)) (r .0 .answer) (omega (arith, largest-above rows (r .0) (r .1)))))
-    (lt-ltb 0 (countOf rows answer) (subst (λ (k : ℕ). 0 < countOf rows k) (r .2) (row-counts rows (r .0) (r .1)))),
+        (subst (λ (k : ℕ). List·Memᴰ k (numbersFrom 0 (suc (largest rows)))) (omega (arith, r .2)) (mem-numbers 0 (suc (largest rows)) (r .0 .answer) (omega (arith, largest-above rows (r .0) (r .1)))))
+        (lt-ltb 0 (countOf rows answer) (subst (λ (k : ℕ). 0 < countOf rows k) (r .2) (row-counts rows (r .0) (r .1)))),
   )
 
   -- "rising": so none is there twice
   pub sheet-rising : Rising (occurred rows)
   unfolding occurred
   sheet-rising = keep-rises (isCounted rows) 0 (suc (largest rows))
+
+-- ════ sums
+
+-- f of each, added up
+abbrev total : (ℕ → ℕ) → List ℕ → ℕ
+total f [] = 0
+total f (x ∷ xs) = f x + total f xs
+
+total-is : (f : ℕ → ℕ) (xs : List ℕ) → sumℤ (map (λ x. pos (f x)) xs) ≡ pos (total f xs)
+total-is f [] = refl
+total-is f (x ∷ xs) = rw (total-is f xs)
+
+total-two : (f g h : ℕ → ℕ) (xs : List ℕ) → ((x : ℕ) → f x ≡ g x + h x) → total f xs ≡ total g xs + total h xs
+total-two f g h [] e = refl
+total-two f g h (x ∷ xs) e = omega (arith, e x, total-two f g h xs e)
+
+-- those that are 0 may be left out
+total-keep : (f : ℕ → ℕ) (xs : List ℕ) → total f (keep (λ x. ltb 0 (f x)) xs) ≡ total f xs
+total-keep f [] = refl
+total-keep f (x ∷ xs) =
+    let r = total-keep f xs in by-test (ltb 0 (f x)) (λ t. rw t (omega (arith, r))) (λ b. let z = ltb-false 0 (f x) b in rw b (omega (arith, r)))
+
+-- one number, once among numbers
+one-none : (a from many : ℕ) → a < from → total (λ x. one (eqb a x)) (numbersFrom from many) ≡ 0
+one-none a from zero l = refl
+one-none a from (suc many) l = let r = one-none a (suc from) many (omega arith) in rw (ne-eqb a from (omega arith)) (omega (arith, r))
+
+one-once : (a from many : ℕ) → from ≤ a → a < from + many → total (λ x. one (eqb a x)) (numbersFrom from many) ≡ 1
+one-once a from zero l h = absurd (omega arith)
+one-once a from (suc many) l h =
+    by-test (eqb a from) (λ t. let e = eqb-true a from t in let r = one-none a (suc from) many (omega arith) in rw t (omega (arith, r)))
+    (λ f. let e = eqb-false a from f in let r = one-once a (suc from) many (omega arith) (omega arith) in rw f (omega (arith, r)))
+
+-- each row is counted once
+rows-counted : (rows : List Row) (most : ℕ) → largest rows ≤ most → total (countOf rows) (numbersFrom 0 (suc most)) ≡ length rows
+unfolding countOf
+rows-counted [] most l = none (numbersFrom 0 (suc most))
+  where
+    none : (xs : List ℕ) → total (λ x. 0) xs ≡ 0
+    none [] = refl
+    none (x ∷ xs) = omega (arith, none xs)
+rows-counted (row ∷ rows) most l =
+    let a = one-once (row .answer) 0 (suc most) (omega arith) (omega arith) in
+    total-two (countOf (row ∷ rows)) (λ x. one (eqb (row .answer) x)) (countOf rows) (numbersFrom 0 (suc most)) (λ x. count-cons (λ r. eqb (r .answer) x) row rows)
+    ∙ omega (arith, a, rows-counted rows most (omega arith))
+
+-- the N lines' words and scores are the rows'
+lines-words : (number : ℕ) (rows : List Row) → map wordsIn (directionLines number rows) ≡ map (λ row. pos (row .words)) rows
+lines-words number [] = refl
+lines-words number (row ∷ rows) = ap (λ (zs : List ℤ). pos (row .words) ∷ zs) (lines-words (suc number) rows)
+
+lines-scores : (number : ℕ) (rows : List Row) → map scoreIn (directionLines number rows) ≡ map (λ row. row .score) rows
+lines-scores number [] = refl
+lines-scores number (row ∷ rows) = ap (λ (zs : List ℤ). row .score ∷ zs) (lines-scores (suc number) rows)
+
+module _ (rows : List Row) where
+  -- the counts add up to the number of the directions
+  pub sheet-adds-up : sumℤ (map countIn (eLines rows)) ≡ pos (length rows)
+  unfolding occurred
+  sheet-adds-up =
+      ap (λ (lines : List Line). sumℤ (map countIn lines)) (e-lines rows) ∙ ap sumℤ (map-map countIn (answerLine rows) (occurred rows)) ∙ total-is (countOf rows) (occurred rows)
+      ∙ ap pos (total-keep (countOf rows) (numbersFrom 0 (suc (largest rows))) ∙ rows-counted rows (largest rows) (omega arith))
+
+  -- "`Z,directions,words,score`"; "Z gives their number and the sums of their words and scores": those of the N lines
+  pub sheet-total : zLines rows ≡ record { letter = 90; numbers = pos (length (nLines rows)) ∷ sumℤ (map wordsIn (nLines rows)) ∷ sumℤ (map scoreIn (nLines rows)) ∷ [] } ∷ []
+  sheet-total = z-line rows ∙ rw (n-lines rows, lines-long 1 rows, lines-words 1 rows, lines-scores 1 rows)
