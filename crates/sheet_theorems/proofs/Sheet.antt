@@ -176,8 +176,8 @@ keep-rises test from (suc many) =
 
 module _ (rows : List Row) where
   -- "for each answer that occurred": the E lines' answers are these
-  pub sheet-answers-are : map answerOf (eLines rows) ≡ map pos (occurred rows)
-  sheet-answers-are = ap (map answerOf) (e-lines rows) ∙ map-map answerOf (answerLine rows) (occurred rows)
+  pub e-answers : map answerOf (eLines rows) ≡ map pos (occurred rows)
+  e-answers = ap (map answerOf) (e-lines rows) ∙ map-map answerOf (answerLine rows) (occurred rows)
 
   -- and these are the rows' answers: each is one, and one that is none is not there
   pub sheet-occurred : (answer : ℕ) → List·Memᴰ answer (occurred rows) ↔ ((row : Row) × List·Memᴰ row rows × (row .answer ≡ answer))
