@@ -1,2 +1,4 @@
+pub mod Totals
 pub mod Sheet
 pub mod Reading
+pub mod Room

@@ -7,7 +7,7 @@ use mathlib.Core.Path.{_≡_, refl, sym, ap, subst, _∙_}
 use mathlib.Core.Bool.{Bool, false}
 use mathlib.Core.Logic.{_↔_}
 use mathlib.Core.List.{List, [], _∷_, _++_, map, map-map, append-nil, List·Memᴰ, List·Memᴰ·head, List·Memᴰ·tail}
-use borrow.Author.Tests.{eqb-true, eq-eqb, ne-eqb, eqb-false, ltb-true, ltb-false, lt-ltb}
+use borrow.Author.Tests.{eqb-true, eq-eqb, ltb-true, lt-ltb}
 use lib.Dec.{eqb, ltb}
 use lib.IntN.{ℤ, pos}
 use lib.ListN.{length, getD}
@@ -16,6 +16,7 @@ use Rattle.laws.specs.Integers.{eqℤ}
 use Rattle.laws.specs.Lists.{count, keep, numbersFrom, sumℤ}
 use Rattle.laws.proofs.Lists.{getD-mem, keep-++, keep-mem, mem-keep, mem-numbers, numbers-mem, count-cons}
 use Rattle.laws.proofs.Tests.{by-test, if-ind}
+use Rattle.sheet_theorems.proofs.Totals.{total, total-is, total-two, total-keep, one-once}
 use Rattle.meaning.specs.Sheet.{Row, Line, directionLine, directionLines, countOf, largest, occurred, answerLine, totalLine, sheetLines}
 
 -- ════ the parts of a sheet
@@ -196,38 +197,8 @@ module _ (rows : List Row) where
 
 -- ════ sums
 
--- f of each, added up
-abbrev total : (ℕ → ℕ) → List ℕ → ℕ
-total f [] = 0
-total f (x ∷ xs) = f x + total f xs
-
-total-is : (f : ℕ → ℕ) (xs : List ℕ) → sumℤ (map (λ x. pos (f x)) xs) ≡ pos (total f xs)
-total-is f [] = refl
-total-is f (x ∷ xs) = rw (total-is f xs)
-
-total-two : (f g h : ℕ → ℕ) (xs : List ℕ) → ((x : ℕ) → f x ≡ g x + h x) → total f xs ≡ total g xs + total h xs
-total-two f g h [] e = refl
-total-two f g h (x ∷ xs) e = omega (arith, e x, total-two f g h xs e)
-
--- those that are 0 may be left out
-total-keep : (f : ℕ → ℕ) (xs : List ℕ) → total f (keep (λ x. ltb 0 (f x)) xs) ≡ total f xs
-total-keep f [] = refl
-total-keep f (x ∷ xs) =
-    let r = total-keep f xs in by-test (ltb 0 (f x)) (λ t. rw t (omega (arith, r))) (λ b. let z = ltb-false 0 (f x) b in rw b (omega (arith, r)))
-
--- one number, once among numbers
-one-none : (a from many : ℕ) → a < from → total (λ x. one (eqb a x)) (numbersFrom from many) ≡ 0
-one-none a from zero l = refl
-one-none a from (suc many) l = let r = one-none a (suc from) many (omega arith) in rw (ne-eqb a from (omega arith)) (omega (arith, r))
-
-one-once : (a from many : ℕ) → from ≤ a → a < from + many → total (λ x. one (eqb a x)) (numbersFrom from many) ≡ 1
-one-once a from zero l h = absurd (omega arith)
-one-once a from (suc many) l h =
-    by-test (eqb a from) (λ t. let e = eqb-true a from t in let r = one-none a (suc from) many (omega arith) in rw t (omega (arith, r)))
-    (λ f. let e = eqb-false a from f in let r = one-once a (suc from) many (omega arith) (omega arith) in rw f (omega (arith, r)))
-
 -- each row is counted once
-rows-counted : (rows : List Row) (most : ℕ) → largest rows ≤ most → total (countOf rows) (numbersFrom 0 (suc most)) ≡ length rows
+pub rows-counted : (rows : List Row) (most : ℕ) → largest rows ≤ most → total (countOf rows) (numbersFrom 0 (suc most)) ≡ length rows
 unfolding countOf
 rows-counted [] most l = none (numbersFrom 0 (suc most))
   where
