@@ -123,7 +123,7 @@ unfolding countOf
 count-lines number [] answer = refl
 count-lines number (row ∷ rows) answer = by-test (eqb (row .answer) answer) (λ t. rw (t, count-lines (suc number) rows answer)) (λ f. rw f (count-lines (suc number) rows answer))
 
-mem-map : {A B : Type 0} (f : A → B) (xs : List A) {y : B} → List·Memᴰ y (map f xs) → (x : A) × List·Memᴰ x xs × (f x ≡ y)
+pub mem-map : {A B : Type 0} (f : A → B) (xs : List A) {y : B} → List·Memᴰ y (map f xs) → (x : A) × List·Memᴰ x xs × (f x ≡ y)
 mem-map f (x ∷ xs) (List·Memᴰ·head e) = (x, List·Memᴰ·head refl, sym e)
 mem-map f (x ∷ xs) (List·Memᴰ·tail m) = let r = mem-map f xs m in (r .0, List·Memᴰ·tail (r .1), r .2)
 
