@@ -8,7 +8,7 @@ use mathlib.Core.List.{List, [], _∷_, _++_, map, map-map, map-append, List·Me
 use borrow.Author.Tests.{ltb-true, ltb-false}
 use lib.Dec.{eqb, ltb}
 use lib.IntN.{ℤ, pos, negsuc}
-use lib.ListN.{length, length-append}
+use lib.ListN.{length, length-append, replicate}
 use Rattle.laws.specs.Integers.{Within}
 use Rattle.laws.specs.Lists.{concat, keep, numbersFrom, sumℤ}
 use Rattle.laws.proofs.Bounds.{within-+, within-mono}
@@ -195,3 +195,8 @@ module _ (rows : List Row) (d : OfDecodes rows) (few : length rows ≤ 64) where
         z-short,
         few,
       )
+
+-- and it can have as many: 64 answers of 256 words and the lowest score
+pub sheet-longest : length (sheetOf (replicate 64 (record { answer = 0; score = negsuc 810_239_999; words = 256 }))) ≡ 1_430
+unfolding sheetOf sheetLines occurred countOf printedLine decimal
+sheet-longest = refl
