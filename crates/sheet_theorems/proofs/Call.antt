@@ -1,19 +1,22 @@
 -- Ticket 8, the call: 7 comes "after Ticket 7's 12" (`sheet-before`, `sheet-7`, `sheet-passes`); the rows are those of decodes (`rows-decoded`), so where no question refuses the
 -- sheet has room (`round-sheet-room`), and its lines are of the round's directions, each as decoded alone (`round-sheet-direction`, `round-sheet-answered`, `round-sheet-refused`).
-use Prim.Native.Nat.{ℕ, suc, _≤_, _<_}
+-- The program's sheet has as many bytes at most (`program-room`).
+use Prim.Native.Nat.{ℕ, suc, _*_, _≤_, _<_}
 use native.Mathlib.Omega.{arith}
 use mathlib.Core.Path.{_≡_, refl, sym, ap, subst, _∙_}
-use mathlib.Core.Bool.{true}
-use mathlib.Core.List.{List, [], _∷_}
+use mathlib.Core.Bool.{true, _&&_}
+use mathlib.Core.List.{List, [], _∷_, map}
 use borrow.Author.Tests.{leb-true, le-leb, lt-leb}
 use lib.Dec.{leb}
-use lib.IntN.{ℤ, pos}
+use lib.IntN.{ℤ, pos, negsuc}
 use lib.ListN.{length, getD, length-map, List·getD-map}
-use Rattle.meaning.specs.Questions.{_unless_}
-use Rattle.meaning.specs.Book.{bookRefusal}
+use Rattle.laws.proofs.Tests.{between}
+use Rattle.meaning.specs.Questions.{_unless_, within}
+use Rattle.meaning.specs.Book.{bookRefusal, loadedOf, readRefusal}
+use Rattle.meaning.specs.Direction.{directionOf}
 use Rattle.meaning.specs.Reply.{Reply, done, refused, Lent, decode}
 use Rattle.meaning.specs.Round.{areEnds, directionsOf, roundRefusal, answerNumbers}
-use Rattle.meaning.specs.Sheet.{Row, Line, rowOf, directionLine, rowsOf, sheetRefusal, roundSheet, sheetReply}
+use Rattle.meaning.specs.Sheet.{Row, Line, rowOf, directionLine, rowsOf, sheetRefusal, roundSheet, sheetReply, directionTexts, roundInputRefusal, printedRoundAfter, printedRound}
 use Rattle.meaning.specs.declared.Answer.{Answer}
 use Rattle.meaning.proofs.Chains.{first-passes, rest-passes, test-passes, done-passes, done-is}
 use Rattle.meaning.proofs.Parts.{directions-count}
@@ -127,3 +130,16 @@ module _ (loaded : List ℤ) (directions ends : List ℕ) (width : ℤ) where
         let z : sheetRefusal loaded directions ends lent answers sheet ≡ 0 = done-passes k size n e in
         let s : size ≡ n = done-is k size n e in
         (sym s, omega (arith, s, round-sheet-room (lent .store) (ends-are z)), leb-true 2_048 sheet (test-passes 6 (leb 2_048 sheet) (rest-passes (roundRefusal loaded directions ends lent answers) _ z)))
+
+-- ════ the program `round`
+
+-- what it writes where it refuses nothing is a sheet of at most 64 directions
+pub program-room : (bookText text : List ℕ) → roundInputRefusal bookText text ≡ 0 → length (printedRound bookText text) ≤ 1_430
+unfolding printedRound roundInputRefusal rowsOf
+program-room bookText text e =
+    let t = rest-passes (readRefusal bookText (length (loadedOf bookText))) _ (rest-passes (7 unless (leb (length bookText) 8_192 && leb (length text) 32_768)) _ e) in
+    let n = between 1 64 (length (directionTexts text)) (test-passes 25 (within 1 64 (length (directionTexts text))) (first-passes (26 unless within 1 64 (length (directionTexts text))) _ t)) in
+    let ds = map directionOf (directionTexts text) in
+    let rows = rowsOf (loadedOf bookText) ds (negsuc 0) (8 * 512) in
+    let m : length rows ≡ length (directionTexts text) = length-map ds (λ d. rowOf (decode (loadedOf bookText) d (negsuc 0) (places (loadedOf bookText) (negsuc 0) (8 * 512)))) ∙ length-map (directionTexts text) directionOf in
+    subst (λ (k : ℕ). length (printedRoundAfter k bookText text) ≤ 1_430) (sym e) (sheet-room rows (rows-decoded (loadedOf bookText) (negsuc 0) (8 * 512) ds) (omega (arith, m, n .1)))

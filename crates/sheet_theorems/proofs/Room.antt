@@ -1,9 +1,9 @@
--- Ticket 8: a sheet has at most 1,430 bytes (`sheet-room`), so the 2,048 that are asked for are enough. Its numbers are of rows of a decode (`rows-decoded`): a line of an
--- answer has at most 20 bytes and its number, one of a refusal 10 and its number; every E line but that of answer 0 has one of these beside it.
+-- Ticket 8: a sheet of decodes (Call, `rows-decoded`) has at most 1,430 bytes (`sheet-room`), so the 2,048 that are asked for are enough. Beside the digits of its number an N line
+-- of an answer has at most 20 bytes, and one of a refusal 10; each E line has at most 8 and, but for that of answer 0, an N line of a refusal of its own.
 use Prim.Native.Nat.{ℕ, zero, suc, _+_, _-_, _*_, _≤_}
 use native.Mathlib.Omega.{arith}
 use mathlib.Core.Path.{_≡_, refl, ap, _∙_}
-use mathlib.Core.Bool.{Bool, cond}
+use mathlib.Core.Bool.{cond}
 use mathlib.Core.List.{List, [], _∷_, _++_, map, map-map, map-append, List·Memᴰ, List·Memᴰ·head, List·Memᴰ·tail}
 use borrow.Author.Tests.{ltb-true, ltb-false}
 use lib.Dec.{eqb, ltb}
@@ -18,10 +18,10 @@ use Rattle.meaning.specs.Render.{decimal, printedLine}
 use Rattle.meaning.specs.State.{scoreBound}
 use Rattle.meaning.specs.Sheet.{Row, Line, directionLine, directionLines, countOf, largest, occurred, answerLine, totalLine, sheetLines, printed, sheetOf}
 use Rattle.decimals.proofs.Digits.{digit, at-most, negative}
-use Rattle.printing.proofs.Lengths.{two-digits, score-short, each-short}
+use Rattle.printing.proofs.Lengths.{line-3-long, two-digits, score-short, each-short}
 use Rattle.printing.proofs.Lines.{line-long}
 use Rattle.sheet_theorems.proofs.Totals.{total, total-is, total-keep, total-most, total-least, total-numbers}
-use Rattle.sheet_theorems.proofs.Sheet.{rows-counted}
+use Rattle.sheet_theorems.proofs.Sheet.{isCounted, rows-counted}
 
 -- what a row of a decode holds
 pub record OfDecode (row : Row) : Type 0 where
@@ -35,9 +35,6 @@ pub record OfDecode (row : Row) : Type 0 where
 
 line-2-long : (l : ℕ) (a b : ℤ) → length (printedLine l (a ∷ b ∷ [])) ≡ 4 + length (decimal a) + length (decimal b)
 line-2-long l a b = line-long l (a ∷ b ∷ []) ∙ simp length-append (omega arith)
-
-line-3-long : (l : ℕ) (a b c : ℤ) → length (printedLine l (a ∷ b ∷ c ∷ [])) ≡ 5 + length (decimal a) + length (decimal b) + length (decimal c)
-line-3-long l a b c = line-long l (a ∷ b ∷ c ∷ []) ∙ simp length-append (omega arith)
 
 line-4-long : (l : ℕ) (a b c d : ℤ) → length (printedLine l (a ∷ b ∷ c ∷ d ∷ [])) ≡ 6 + length (decimal a) + length (decimal b) + length (decimal c) + length (decimal d)
 line-4-long l a b c d = line-long l (a ∷ b ∷ c ∷ d ∷ []) ∙ simp length-append (omega arith)
@@ -122,19 +119,16 @@ module _ (rows : List Row) (d : OfDecodes rows) (few : length rows ≤ 64) where
   e-zero-short : length (printed (answerLine rows 0)) ≤ 7
   e-zero-short = let c = count-few 0 in omega (arith, line-2-long 69 (pos 0) (pos (countOf rows 0)), zero-digit, two-digits (countOf rows 0) (omega arith))
 
-  abbrev isCounted : ℕ → Bool
-  isCounted answer = ltb 0 (countOf rows answer)
-
   -- the refusals that occurred are no more than the refused rows
   abbrev later : List ℕ
   later = numbersFrom 1 (largest rows)
 
   abbrev refusals : List ℕ
-  refusals = keep isCounted later
+  refusals = keep (isCounted rows) later
 
   refusals-few : length refusals + countOf rows 0 ≤ length rows
   refusals-few =
-      let a = total-least (countOf rows) refusals (λ k m. ltb-true 0 (countOf rows k) (keep-mem isCounted later m .1)) in
+      let a = total-least (countOf rows) refusals (λ k m. ltb-true 0 (countOf rows k) (keep-mem (isCounted rows) later m .1)) in
       omega (arith, a, total-keep (countOf rows) later, rows-counted rows (largest rows) (omega arith))
 
   refusals-short : size (map (answerLine rows) refusals) ≤ 8 * length refusals
@@ -143,13 +137,13 @@ module _ (rows : List Row) (d : OfDecodes rows) (few : length rows ≤ 64) where
       omega (
         arith,
         ap (λ (l : List (List ℕ)). length (concat l)) (map-map printed (answerLine rows) refusals),
-        each-short (λ k. printed (answerLine rows k)) 8 refusals (λ k m. e-short k (omega (arith, numbers-mem 1 (largest rows) k (keep-mem isCounted later m .0)))),
+        each-short (λ k. printed (answerLine rows k)) 8 refusals (λ k m. e-short k (omega (arith, numbers-mem 1 (largest rows) k (keep-mem (isCounted rows) later m .0)))),
       )
 
   e-lines-short : size (map (answerLine rows) (occurred rows)) ≤ 7 + 8 * length refusals
   unfolding occurred
   e-lines-short =
-      if-ind (isCounted 0) (λ (answers : List ℕ). size (map (answerLine rows) answers) ≤ 7 + 8 * length refusals)
+      if-ind (isCounted rows 0) (λ (answers : List ℕ). size (map (answerLine rows) answers) ≤ 7 + 8 * length refusals)
       (λ t. omega (arith, length-append (printed (answerLine rows 0)) (concat (map printed (map (answerLine rows) refusals))), e-zero-short, refusals-short))
       (λ f. omega (arith, refusals-short))
 

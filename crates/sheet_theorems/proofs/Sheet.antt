@@ -1,6 +1,6 @@
 -- Ticket 8, the lines of a sheet, said of its own lines and for every list of rows. Its parts are the N lines, the E lines and the Z line (`n-lines`, `e-lines`, `z-line`);
--- the N lines are the rows in their order (`sheet-direction`); the E lines are of the answers that occurred (`sheet-occurred`), rising (`sheet-rising`), each with its count
--- (`sheet-counts`), and the counts add up (`sheet-adds-up`); the Z line is the N lines' number and sums (`sheet-total`).
+-- the N lines are the rows in their order (`sheet-direction`); the E lines are of the answers that occurred (`sheet-occurred`, `sheet-answered`), rising (`sheet-rising`), each with
+-- its count (`sheet-counts`), and the counts add up (`sheet-adds-up`); the Z line is the N lines' number and sums (`sheet-total`).
 use Prim.Native.Nat.{ℕ, zero, suc, _+_, _≤_, _<_}
 use native.Mathlib.Omega.{arith}
 use mathlib.Core.Path.{_≡_, refl, sym, ap, subst, _∙_}
@@ -16,8 +16,8 @@ use Rattle.laws.specs.Integers.{eqℤ}
 use Rattle.laws.specs.Lists.{count, keep, numbersFrom, sumℤ}
 use Rattle.laws.proofs.Lists.{getD-mem, keep-++, keep-mem, mem-keep, mem-numbers, numbers-mem, count-cons}
 use Rattle.laws.proofs.Tests.{by-test, if-ind}
-use Rattle.sheet_theorems.proofs.Totals.{total, total-is, total-two, total-keep, one-once}
 use Rattle.meaning.specs.Sheet.{Row, Line, directionLine, directionLines, countOf, largest, occurred, answerLine, totalLine, sheetLines}
+use Rattle.sheet_theorems.proofs.Totals.{total, total-is, total-two, total-keep, one-once}
 
 -- ════ the parts of a sheet
 
@@ -127,6 +127,10 @@ pub mem-map : {A B : Type 0} (f : A → B) (xs : List A) {y : B} → List·Mem�
 mem-map f (x ∷ xs) (List·Memᴰ·head e) = (x, List·Memᴰ·head refl, sym e)
 mem-map f (x ∷ xs) (List·Memᴰ·tail m) = let r = mem-map f xs m in (r .0, List·Memᴰ·tail (r .1), r .2)
 
+map-mem : {A B : Type 0} (f : A → B) (xs : List A) {x : A} → List·Memᴰ x xs → List·Memᴰ (f x) (map f xs)
+map-mem f (y ∷ xs) (List·Memᴰ·head e) = List·Memᴰ·head (ap f e)
+map-mem f (y ∷ xs) (List·Memᴰ·tail m) = List·Memᴰ·tail (map-mem f xs m)
+
 module _ (rows : List Row) where
   -- "Each count is that of the N lines with its answer"
   pub sheet-counts : (line : Line) → List·Memᴰ line (eLines rows) → countIn line ≡ pos (count (λ n. eqℤ (answerIn n) (answerOf line)) (nLines rows))
@@ -136,9 +140,8 @@ module _ (rows : List Row) where
 
 -- ════ the answers that occurred
 
-module _ (rows : List Row) where
-  abbrev isCounted : ℕ → Bool
-  isCounted answer = ltb 0 (countOf rows answer)
+abbrev pub isCounted : List Row → ℕ → Bool
+isCounted rows answer = ltb 0 (countOf rows answer)
 
 -- no row is above the largest
 largest-above : (rows : List Row) (row : Row) → List·Memᴰ row rows → row .answer ≤ largest rows
@@ -175,8 +178,13 @@ keep-rises test from (suc many) =
     let later = numbersFrom (suc from) many in let rest = keep test later in let r = keep-rises test (suc from) many in
     if-ind (test from) Rising (λ t. rising-first from rest (λ k l. omega (arith, numbers-mem (suc from) many (getD rest k 0) (keep-mem test later (getD-mem rest k 0 l) .0))) r) (λ f. r)
 
+-- the N lines' answers are the rows'
+lines-answers : (number : ℕ) (rows : List Row) → map answerIn (directionLines number rows) ≡ map (λ row. pos (row .answer)) rows
+lines-answers number [] = refl
+lines-answers number (row ∷ rows) = ap (λ (zs : List ℤ). pos (row .answer) ∷ zs) (lines-answers (suc number) rows)
+
 module _ (rows : List Row) where
-  -- "for each answer that occurred": the E lines' answers are these
+  -- the E lines' answers are these
   pub e-answers : map answerOf (eLines rows) ≡ map pos (occurred rows)
   e-answers = ap (map answerOf) (e-lines rows) ∙ map-map answerOf (answerLine rows) (occurred rows)
 
@@ -189,6 +197,18 @@ module _ (rows : List Row) where
         (subst (λ (k : ℕ). List·Memᴰ k (numbersFrom 0 (suc (largest rows)))) (omega (arith, r .2)) (mem-numbers 0 (suc (largest rows)) (r .0 .answer) (omega (arith, largest-above rows (r .0) (r .1)))))
         (lt-ltb 0 (countOf rows answer) (subst (λ (k : ℕ). 0 < countOf rows k) (r .2) (row-counts rows (r .0) (r .1)))),
   )
+
+  -- "for each answer that occurred": an E line has it exactly where an N line has it
+  pub sheet-answered : (z : ℤ) → List·Memᴰ z (map answerOf (eLines rows)) ↔ List·Memᴰ z (map answerIn (nLines rows))
+  sheet-answered z =
+      let ns : map answerIn (nLines rows) ≡ map (λ row. pos (row .answer)) rows = ap (map answerIn) (n-lines rows) ∙ lines-answers 1 rows in (
+        λ m.
+            let k = mem-map pos (occurred rows) (subst (λ (zs : List ℤ). List·Memᴰ z zs) e-answers m) in let r = sheet-occurred (k .0) .0 (k .1) in
+            rw ns (subst (λ (y : ℤ). List·Memᴰ y (map (λ row. pos (row .answer)) rows)) (ap pos (r .2) ∙ k .2) (map-mem (λ row. pos (row .answer)) rows (r .1))),
+        λ m.
+            let r = mem-map (λ row. pos (row .answer)) rows (subst (λ (zs : List ℤ). List·Memᴰ z zs) ns m) in
+            rw e-answers (subst (λ (y : ℤ). List·Memᴰ y (map pos (occurred rows))) (r .2) (map-mem pos (occurred rows) (sheet-occurred (r .0 .answer) .1 (r .0, r .1, refl)))),
+      )
 
   -- "rising": so none is there twice
   pub sheet-rising : Rising (occurred rows)
