@@ -1,13 +1,13 @@
 -- Ticket 8, the lines of a sheet, said of its own lines and for every list of rows. Its parts are the N lines, the E lines and the Z line (`n-lines`, `e-lines`, `z-line`);
--- the N lines are the rows in their order (`sheet-direction`); the E lines are of the answers that occurred (`sheet-occurred`), rising (`sheet-rising`), each with its count
--- (`sheet-counts`), and the counts add up (`sheet-adds-up`); the Z line is the N lines' number and sums (`sheet-total`).
+-- the N lines are the rows in their order (`sheet-direction`); the E lines are of the answers that occurred (`sheet-occurred`, `sheet-answered`), rising (`sheet-rising`), each with
+-- its count (`sheet-counts`), and the counts add up (`sheet-adds-up`); the Z line is the N lines' number and sums (`sheet-total`).
 use Prim.Native.Nat.{ℕ, zero, suc, _+_, _≤_, _<_}
 use native.Mathlib.Omega.{arith}
 use mathlib.Core.Path.{_≡_, refl, sym, ap, subst, _∙_}
 use mathlib.Core.Bool.{Bool, false}
 use mathlib.Core.Logic.{_↔_}
 use mathlib.Core.List.{List, [], _∷_, _++_, map, map-map, append-nil, List·Memᴰ, List·Memᴰ·head, List·Memᴰ·tail}
-use borrow.Author.Tests.{eqb-true, eq-eqb, ne-eqb, eqb-false, ltb-true, ltb-false, lt-ltb}
+use borrow.Author.Tests.{eqb-true, eq-eqb, ltb-true, lt-ltb}
 use lib.Dec.{eqb, ltb}
 use lib.IntN.{ℤ, pos}
 use lib.ListN.{length, getD}
@@ -17,6 +17,7 @@ use Rattle.laws.specs.Lists.{count, keep, numbersFrom, sumℤ}
 use Rattle.laws.proofs.Lists.{getD-mem, keep-++, keep-mem, mem-keep, mem-numbers, numbers-mem, count-cons}
 use Rattle.laws.proofs.Tests.{by-test, if-ind}
 use Rattle.meaning.specs.Sheet.{Row, Line, directionLine, directionLines, countOf, largest, occurred, answerLine, totalLine, sheetLines}
+use Rattle.sheet_theorems.proofs.Totals.{total, total-is, total-two, total-keep, one-once}
 
 -- ════ the parts of a sheet
 
@@ -122,9 +123,13 @@ unfolding countOf
 count-lines number [] answer = refl
 count-lines number (row ∷ rows) answer = by-test (eqb (row .answer) answer) (λ t. rw (t, count-lines (suc number) rows answer)) (λ f. rw f (count-lines (suc number) rows answer))
 
-mem-map : {A B : Type 0} (f : A → B) (xs : List A) {y : B} → List·Memᴰ y (map f xs) → (x : A) × List·Memᴰ x xs × (f x ≡ y)
+pub mem-map : {A B : Type 0} (f : A → B) (xs : List A) {y : B} → List·Memᴰ y (map f xs) → (x : A) × List·Memᴰ x xs × (f x ≡ y)
 mem-map f (x ∷ xs) (List·Memᴰ·head e) = (x, List·Memᴰ·head refl, sym e)
 mem-map f (x ∷ xs) (List·Memᴰ·tail m) = let r = mem-map f xs m in (r .0, List·Memᴰ·tail (r .1), r .2)
+
+map-mem : {A B : Type 0} (f : A → B) (xs : List A) {x : A} → List·Memᴰ x xs → List·Memᴰ (f x) (map f xs)
+map-mem f (y ∷ xs) (List·Memᴰ·head e) = List·Memᴰ·head (ap f e)
+map-mem f (y ∷ xs) (List·Memᴰ·tail m) = List·Memᴰ·tail (map-mem f xs m)
 
 module _ (rows : List Row) where
   -- "Each count is that of the N lines with its answer"
@@ -135,9 +140,8 @@ module _ (rows : List Row) where
 
 -- ════ the answers that occurred
 
-module _ (rows : List Row) where
-  abbrev isCounted : ℕ → Bool
-  isCounted answer = ltb 0 (countOf rows answer)
+abbrev pub isCounted : List Row → ℕ → Bool
+isCounted rows answer = ltb 0 (countOf rows answer)
 
 -- no row is above the largest
 largest-above : (rows : List Row) (row : Row) → List·Memᴰ row rows → row .answer ≤ largest rows
@@ -174,8 +178,13 @@ keep-rises test from (suc many) =
     let later = numbersFrom (suc from) many in let rest = keep test later in let r = keep-rises test (suc from) many in
     if-ind (test from) Rising (λ t. rising-first from rest (λ k l. omega (arith, numbers-mem (suc from) many (getD rest k 0) (keep-mem test later (getD-mem rest k 0 l) .0))) r) (λ f. r)
 
+-- the N lines' answers are the rows'
+lines-answers : (number : ℕ) (rows : List Row) → map answerIn (directionLines number rows) ≡ map (λ row. pos (row .answer)) rows
+lines-answers number [] = refl
+lines-answers number (row ∷ rows) = ap (λ (zs : List ℤ). pos (row .answer) ∷ zs) (lines-answers (suc number) rows)
+
 module _ (rows : List Row) where
-  -- "for each answer that occurred": the E lines' answers are these
+  -- the E lines' answers are these
   pub e-answers : map answerOf (eLines rows) ≡ map pos (occurred rows)
   e-answers = ap (map answerOf) (e-lines rows) ∙ map-map answerOf (answerLine rows) (occurred rows)
 
@@ -189,6 +198,18 @@ module _ (rows : List Row) where
         (lt-ltb 0 (countOf rows answer) (subst (λ (k : ℕ). 0 < countOf rows k) (r .2) (row-counts rows (r .0) (r .1)))),
   )
 
+  -- "for each answer that occurred": an E line has it exactly where an N line has it
+  pub sheet-answered : (z : ℤ) → List·Memᴰ z (map answerOf (eLines rows)) ↔ List·Memᴰ z (map answerIn (nLines rows))
+  sheet-answered z =
+      let ns : map answerIn (nLines rows) ≡ map (λ row. pos (row .answer)) rows = ap (map answerIn) (n-lines rows) ∙ lines-answers 1 rows in (
+        λ m.
+            let k = mem-map pos (occurred rows) (subst (λ (zs : List ℤ). List·Memᴰ z zs) e-answers m) in let r = sheet-occurred (k .0) .0 (k .1) in
+            rw ns (subst (λ (y : ℤ). List·Memᴰ y (map (λ row. pos (row .answer)) rows)) (ap pos (r .2) ∙ k .2) (map-mem (λ row. pos (row .answer)) rows (r .1))),
+        λ m.
+            let r = mem-map (λ row. pos (row .answer)) rows (subst (λ (zs : List ℤ). List·Memᴰ z zs) ns m) in
+            rw e-answers (subst (λ (y : ℤ). List·Memᴰ y (map pos (occurred rows))) (r .2) (map-mem pos (occurred rows) (sheet-occurred (r .0 .answer) .1 (r .0, r .1, refl)))),
+      )
+
   -- "rising": so none is there twice
   pub sheet-rising : Rising (occurred rows)
   unfolding occurred
@@ -196,38 +217,8 @@ module _ (rows : List Row) where
 
 -- ════ sums
 
--- f of each, added up
-abbrev total : (ℕ → ℕ) → List ℕ → ℕ
-total f [] = 0
-total f (x ∷ xs) = f x + total f xs
-
-total-is : (f : ℕ → ℕ) (xs : List ℕ) → sumℤ (map (λ x. pos (f x)) xs) ≡ pos (total f xs)
-total-is f [] = refl
-total-is f (x ∷ xs) = rw (total-is f xs)
-
-total-two : (f g h : ℕ → ℕ) (xs : List ℕ) → ((x : ℕ) → f x ≡ g x + h x) → total f xs ≡ total g xs + total h xs
-total-two f g h [] e = refl
-total-two f g h (x ∷ xs) e = omega (arith, e x, total-two f g h xs e)
-
--- those that are 0 may be left out
-total-keep : (f : ℕ → ℕ) (xs : List ℕ) → total f (keep (λ x. ltb 0 (f x)) xs) ≡ total f xs
-total-keep f [] = refl
-total-keep f (x ∷ xs) =
-    let r = total-keep f xs in by-test (ltb 0 (f x)) (λ t. rw t (omega (arith, r))) (λ b. let z = ltb-false 0 (f x) b in rw b (omega (arith, r)))
-
--- one number, once among numbers
-one-none : (a from many : ℕ) → a < from → total (λ x. one (eqb a x)) (numbersFrom from many) ≡ 0
-one-none a from zero l = refl
-one-none a from (suc many) l = let r = one-none a (suc from) many (omega arith) in rw (ne-eqb a from (omega arith)) (omega (arith, r))
-
-one-once : (a from many : ℕ) → from ≤ a → a < from + many → total (λ x. one (eqb a x)) (numbersFrom from many) ≡ 1
-one-once a from zero l h = absurd (omega arith)
-one-once a from (suc many) l h =
-    by-test (eqb a from) (λ t. let e = eqb-true a from t in let r = one-none a (suc from) many (omega arith) in rw t (omega (arith, r)))
-    (λ f. let e = eqb-false a from f in let r = one-once a (suc from) many (omega arith) (omega arith) in rw f (omega (arith, r)))
-
 -- each row is counted once
-rows-counted : (rows : List Row) (most : ℕ) → largest rows ≤ most → total (countOf rows) (numbersFrom 0 (suc most)) ≡ length rows
+pub rows-counted : (rows : List Row) (most : ℕ) → largest rows ≤ most → total (countOf rows) (numbersFrom 0 (suc most)) ≡ length rows
 unfolding countOf
 rows-counted [] most l = none (numbersFrom 0 (suc most))
   where
