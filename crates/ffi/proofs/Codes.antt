@@ -1,11 +1,11 @@
 -- A refusal's number has at most two digits, so it fits every type of the interface, and so does a count within a lent list.
 use Prim.Native.Nat.{ℕ, _≤_, _<_}
 use native.Mathlib.Omega.{arith}
-use mathlib.Core.Path.{_≡_, sym, _∙_}
+use mathlib.Core.Path.{_≡_, sym, ap, _∙_}
 use mathlib.Core.List.{List}
 use borrow.Author.Tests.{leb-true}
 use lib.IntN.{ℤ, pos, negℤ, _-ℤ_, +ℤ-idl}
-use lib.ListN.{length, length-map}
+use lib.ListN.{length, drop, length-map, length-append}
 use mir.Syntax.{w32, w64}
 use mir.Val.{toZ, ofZ, SFits}
 use Rattle.laws.proofs.Bounds.{within-pos}
@@ -13,14 +13,15 @@ use Rattle.laws.proofs.Got.{Got, nat, lit, sub, fits, kept}
 use Rattle.laws.proofs.Integers.{back-pos}
 use Rattle.meaning.specs.Book.{InText, isBookText, textLines, linesRefusal, loadedOf, readRefusal}
 use Rattle.meaning.specs.Direction.{isDirectionText, directionNumbers, numbersRefusal, readDirectionRefusal, directionOf}
-use Rattle.meaning.specs.Reply.{reply, readReply, readBook, readDirection}
+use Rattle.meaning.specs.Reply.{reply, Lent, readReply, readBook, readDirection, writtenIf}
 use Rattle.laws.specs.Integers.{natOf}
 use Rattle.meaning.specs.declared.Read.{Read}
 use Rattle.meaning.specs.declared.Read.the-variants.{Numbers, Refused}
-use Rattle.meaning.proofs.Chains.{test-passes, rest-passes, done-passes, done-is}
+use Rattle.meaning.proofs.Chains.{test-passes, rest-passes, done-passes, done-is, written-done}
 use Rattle.meaning.proofs.Numbered.{number-to}
 use Rattle.arpa.specs.Import.{longerBook, importRefusal, importArpa}
 use Rattle.arpa.proofs.Scoring.{taken}
+use Rattle.meaning.specs.Sheet.{sheetRefusal, roundSheet, sheetReply}
 use Rattle.meaning.specs.Revision.{added, addRefusal, addEntry, removed, removeRefusal, removeEntry}
 use Rattle.revising.proofs.Replies.{addable, removed-fits}
 use Rattle.ffi.specs.Bounds.{Counted}
@@ -83,3 +84,12 @@ removed-counted list used k r e h = counted r (removeRefusal list used k) (lengt
 pub imported-counted : (text words : List ℕ) (list : List ℤ) (used : ℕ) (r : Read) → readReply r ≡ importArpa text words list used → length list < 9_223_372_036_854_775_808 → Counted r
 unfolding importArpa
 imported-counted text words list used r e h = counted r (importRefusal text words list used) (length (longerBook text words list used)) (length list) e (λ p. taken text words list used p .fits) h
+
+-- and a sheet's length: its bytes stand in the lent list
+pub sheet-counted : (loaded : List ℤ) (directions ends : List ℕ) (width : ℤ) (lent : Lent) (answers : ℕ) (sheet₀ sheet₁ : List ℕ) (r : Read) → readReply r ≡ sheetReply loaded directions ends width lent answers (length sheet₀)
+    → sheet₁ ≡ writtenIf (sheetRefusal loaded directions ends lent answers (length sheet₀)) (roundSheet loaded directions ends width (lent .store)) sheet₀ → length sheet₁ < 9_223_372_036_854_775_808 → Counted r
+unfolding sheetReply
+sheet-counted loaded directions ends width lent answers sheet₀ sheet₁ r e w h =
+    let k = sheetRefusal loaded directions ends lent answers (length sheet₀) in
+    let bytes = roundSheet loaded directions ends width (lent .store) in
+    counted r k (length bytes) (length sheet₁) e (λ z. omega (arith, ap length (w ∙ written-done k bytes sheet₀ z), length-append bytes (drop (length bytes) sheet₀))) h

@@ -9,11 +9,12 @@ ghost use lib.IntN.{pos};
 ghost use lib.ListN.{length};
 ghost use Rattle.meaning.specs.Questions.{number};
 ghost use Rattle.meaning.specs.Book.{bookRefusal, targetPart};
-ghost use Rattle.meaning.specs.Reply.{readReply, readBook, readBookList, readDirection, readDirectionList, filledWith, scoreProposal};
+ghost use Rattle.meaning.specs.Reply.{readReply, readBook, readBookList, readDirection, readDirectionList, writtenIf, filledWith, scoreProposal};
 ghost use Rattle.meaning.specs.Revision.{addEntry, addEntryList, removeEntry, removeEntryList};
 ghost use Rattle.arpa.specs.Import.{importArpa, importArpaList};
 ghost use Rattle.ffi.specs.Bounds.{Counted};
 ghost use Rattle.meaning.specs.Round.{decodeRound, roundRefusal, directionsOf, RoundLists};
+ghost use Rattle.meaning.specs.Sheet.{sheetRefusal, roundSheet, sheetReply};
 ghost use Rattle.lists.specs.Steps.{recordsIn, lentNumbers, asNumbers};
 ghost use Rattle.ffi.specs.Calls.{countOrRefusal, zeroOrRefusal, scoreReport, DecodesNumbers};
 
@@ -188,4 +189,36 @@ pub extern "C" fn phrase_decode_round(
         Checked::Passed => 0i32,
         Checked::Refused(refusal) => code_of(refusal),
     }
+}
+
+// Decodes a round's directions as `phrase_decode_round` does, and puts the sheet of their answers at the beginning of `sheet`: its length, or minus the
+// refusal. A refusal changes no list.
+#[no_mangle]
+pub extern "C" fn phrase_round_sheet(
+    book: &[i32],
+    directions: &[u16],
+    ends: &[usize],
+    width: i64,
+    steps: &mut [u16],
+    words: &mut [u16],
+    store: &mut [i64],
+    answers: &mut [i64],
+    sheet: &mut [u8],
+) -> i64
+    ensures { λ r. ⌜ r ≡ countOrRefusal (sheetReply (now (book .entry)) (now (directions .entry)) (now (ends .entry)) width (lentNumbers (now (steps .entry)) (now (words .entry)) (now (store .entry))) (length (now (answers .entry))) (length (now (sheet .entry)))) ⌝ }
+    ensures { λ _. ⌜ RoundLists asNumbers (sheetRefusal (now (book .entry)) (now (directions .entry)) (now (ends .entry)) (lentNumbers (now (steps .entry)) (now (words .entry)) (now (store .entry))) (length (now (answers .entry))) (length (now (sheet .entry)))) (now (book .entry)) (directionsOf (now (directions .entry)) (now (ends .entry))) width (now (steps .entry)) (now (steps .exit)) (now (words .entry)) (now (words .exit)) (now (store .entry)) (now (store .exit)) (now (answers .entry)) (now (answers .exit)) ⌝ }
+    ensures { λ _. ⌜ now (sheet .exit) ≡ writtenIf (sheetRefusal (now (book .entry)) (now (directions .entry)) (now (ends .entry)) (lentNumbers (now (steps .entry)) (now (words .entry)) (now (store .entry))) (length (now (answers .entry))) (length (now (sheet .entry)))) (roundSheet (now (book .entry)) (now (directions .entry)) (now (ends .entry)) width (length (now (store .entry)))) (now (sheet .entry)) ⌝ }
+{
+    let reply = round_sheet::round_sheet(
+        book,
+        directions,
+        ends,
+        width,
+        steps,
+        words,
+        store,
+        answers,
+        sheet,
+    );
+    count_or_refusal(reply)
 }
