@@ -2,7 +2,7 @@
  *
  * A list is lent as a pointer and its length. Every call may be handed any list and any number: it answers, or refuses with the number of the
  * question whose answer was no (docs/REFUSALS.md). No call keeps a pointer, allocates, or touches a list beyond its length.
- * A list that a call may write (book or direction of a reading, the book of an addition, a removal or an import, steps, words, store, report, answers) must not overlap another list of the same call;
+ * A list that a call may write (book or direction of a reading, the book of an addition, a removal or an import, steps, words, store, report, answers, sheet) must not overlap another list of the same call;
  * lists that are only read may. A pointer is aligned for its type, and not null even where the length is 0.
  * A decode takes 759,000 bytes of stack, a round 756,000, a scoring 494,000, reading, checking or revising a book and the two target calls 477,000, an import 1,266,000,
  * reading a direction fewer than 1,000.
@@ -95,6 +95,20 @@ int32_t phrase_decode_round(const int32_t *book, size_t book_len, const uint16_t
                             const size_t *ends, size_t ends_len, int64_t width,
                             uint16_t *steps, size_t steps_len, uint16_t *words, size_t words_len,
                             int64_t *store, size_t store_len, int64_t *answers, size_t answers_len);
+
+/* Decodes a round as phrase_decode_round does, with the same lists, and puts the sheet of its answers at the front of `sheet`: text lines of a letter and decimal
+ * numbers, each number after a comma, each line ended by byte 10.
+ *   N,number,answer,score,words   a line for each direction, in their order: its number, from 1, its answer, 0 or its refusal, its score, and how many target
+ *                                 words it has; score and words are 0 after a refusal
+ *   E,answer,count                a line for each answer that occurred, rising: how many N lines have it
+ *   Z,directions,words,score      how many N lines there are, and the sums of their words and of their scores
+ * Returns how many bytes the sheet is, at most 1,430, or minus the refusal: those of phrase_decode_round, then 7 where `sheet` has fewer than 2,048 bytes. Bytes
+ * behind the sheet are as before. A refusal changes no list. */
+int64_t phrase_round_sheet(const int32_t *book, size_t book_len, const uint16_t *directions, size_t directions_len,
+                           const size_t *ends, size_t ends_len, int64_t width,
+                           uint16_t *steps, size_t steps_len, uint16_t *words, size_t words_len,
+                           int64_t *store, size_t store_len, int64_t *answers, size_t answers_len,
+                           uint8_t *sheet, size_t sheet_len);
 
 #ifdef __cplusplus
 }

@@ -71,6 +71,25 @@ extern "C" {
         answers: *mut i64,
         answers_len: usize,
     ) -> i32;
+    fn phrase_round_sheet(
+        book: *const i32,
+        book_len: usize,
+        directions: *const u16,
+        directions_len: usize,
+        ends: *const usize,
+        ends_len: usize,
+        width: i64,
+        steps: *mut u16,
+        steps_len: usize,
+        words: *mut u16,
+        words_len: usize,
+        store: *mut i64,
+        store_len: usize,
+        answers: *mut i64,
+        answers_len: usize,
+        sheet: *mut u8,
+        sheet_len: usize,
+    ) -> i64;
 }
 
 /// How many numbers were written, or minus the refusal.
@@ -215,6 +234,42 @@ pub fn decode_round(
             store.len(),
             answers.as_mut_ptr(),
             answers.len(),
+        )
+    }
+}
+
+/// The length of the round's sheet, which stands at the front of `sheet`, or minus the refusal. The other lists are as `decode_round` leaves them.
+#[allow(clippy::too_many_arguments)]
+pub fn round_sheet(
+    book: &[i32],
+    directions: &[u16],
+    ends: &[usize],
+    width: i64,
+    steps: &mut [u16],
+    words: &mut [u16],
+    store: &mut [i64],
+    answers: &mut [i64],
+    sheet: &mut [u8],
+) -> i64 {
+    unsafe {
+        phrase_round_sheet(
+            book.as_ptr(),
+            book.len(),
+            directions.as_ptr(),
+            directions.len(),
+            ends.as_ptr(),
+            ends.len(),
+            width,
+            steps.as_mut_ptr(),
+            steps.len(),
+            words.as_mut_ptr(),
+            words.len(),
+            store.as_mut_ptr(),
+            store.len(),
+            answers.as_mut_ptr(),
+            answers.len(),
+            sheet.as_mut_ptr(),
+            sheet.len(),
         )
     }
 }
