@@ -25,3 +25,4 @@ pub mod Numbered
 pub mod Revised
 pub mod Parts
 pub mod Lengths
+pub mod Sheets

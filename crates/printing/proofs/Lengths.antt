@@ -48,7 +48,7 @@ score-short (negsuc n) h = omega (arith, ap length (negative n), at-most 8 (suc 
 line-1-long : (l : ℕ) (a : ℤ) → length (printedLine l (a ∷ [])) ≡ 3 + length (decimal a)
 line-1-long l a = line-long l (a ∷ []) ∙ simp length-append (omega arith)
 
-line-3-long : (l : ℕ) (a b c : ℤ) → length (printedLine l (a ∷ b ∷ c ∷ [])) ≡ 5 + length (decimal a) + length (decimal b) + length (decimal c)
+pub line-3-long : (l : ℕ) (a b c : ℤ) → length (printedLine l (a ∷ b ∷ c ∷ [])) ≡ 5 + length (decimal a) + length (decimal b) + length (decimal c)
 line-3-long l a b c = line-long l (a ∷ b ∷ c ∷ []) ∙ simp length-append (omega arith)
 
 line-8-long : (l : ℕ) (a b c d e f g h : ℤ) → length (printedLine l (a ∷ b ∷ c ∷ d ∷ e ∷ f ∷ g ∷ h ∷ []))

@@ -149,20 +149,20 @@ free sep (b ∷ bytes) l h =
     rw e (free sep bytes l (a .1))
 
 -- each number after a comma
-abbrev fieldsOf : List ℤ → List ℕ
+abbrev pub fieldsOf : List ℤ → List ℕ
 fieldsOf numbers = concat (map (λ z. comma ∷ decimal z) numbers)
 
-split-fields : (field : List ℕ) (numbers : List ℤ) → isFree comma field ≡ true → split comma (field ++ fieldsOf numbers) ≡ field ∷ map decimal numbers
+pub split-fields : (field : List ℕ) (numbers : List ℤ) → isFree comma field ≡ true → split comma (field ++ fieldsOf numbers) ≡ field ∷ map decimal numbers
 split-fields field [] f = ap (split comma) (append-nil field) ∙ split-alone comma field f
 split-fields field (z ∷ numbers) f =
     split-first comma field (decimal z ++ fieldsOf numbers) f
     ∙ ap (λ (l : List (List ℕ)). field ∷ l) (split-fields (decimal z) numbers (free comma (decimal z) (omega arith) (above z)))
 
-no-line-end : (numbers : List ℤ) → isFree newline (fieldsOf numbers) ≡ true
+pub no-line-end : (numbers : List ℤ) → isFree newline (fieldsOf numbers) ≡ true
 no-line-end [] = refl
 no-line-end (z ∷ numbers) = all-++ (λ b. not (eqb b newline)) (decimal z) (fieldsOf numbers) ∙ rw (free newline (decimal z) (omega arith) (above z), no-line-end numbers)
 
-values : (numbers : List ℤ) → map valueOf (map decimal numbers) ≡ numbers
+pub values : (numbers : List ℤ) → map valueOf (map decimal numbers) ≡ numbers
 values [] = refl
 values (z ∷ numbers) = rw (value-decimal z, values numbers)
 
