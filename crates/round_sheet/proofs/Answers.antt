@@ -1,16 +1,16 @@
 -- A round's answers as the sheet's writer finds them: they fit, and their rows are those of the directions decoded alone.
-use Prim.Native.Nat.{ℕ, zero, suc, _+_, _*_, _≤_, _<_}
+use Prim.Native.Nat.{ℕ, suc, _+_, _*_, _≤_, _<_}
 use native.Mathlib.Omega.{arith}
 use mathlib.Core.Path.{_≡_, refl, sym, ap, _∙_, subst}
 use mathlib.Core.List.{List, [], _∷_, map}
 use lib.IntN.{ℤ, pos}
-use lib.ListN.{length, getD, take, drop}
+use lib.ListN.{length, getD, drop}
 use lib.Seq.{getD-take, getD-drop}
 use Rattle.laws.specs.Integers.{natOf}
 use Rattle.laws.specs.Lists.{numbersFrom}
 use Rattle.meaning.specs.Reply.{Reply, refused, done, decode}
 use Rattle.meaning.specs.Round.{alone, answerNumbers, byParts}
-use Rattle.meaning.specs.Sheet.{Row, rowOf, rowsOf}
+use Rattle.meaning.specs.Sheet.{rowOf, rowsOf}
 use Rattle.meaning.specs.declared.Answer.{Answer}
 use Rattle.meaning.proofs.Lengths.{answer-nine}
 use Rattle.meaning.proofs.Parts.{partOf, parts-at, parts-long}

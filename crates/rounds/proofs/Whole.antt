@@ -2,7 +2,7 @@
 use Prim.Native.Nat.{ℕ, zero, suc, _+_, _-_, _*_, _/_, _≤_, _<_}
 use native.Mathlib.Omega.{arith}
 use mathlib.Core.Path.{_≡_, refl, ap, _∙_}
-use mathlib.Core.Bool.{Bool, true, false, _&&_, _||_}
+use mathlib.Core.Bool.{Bool, _&&_, _||_}
 use mathlib.Core.List.{List, []}
 use borrow.Author.Tests.{leb-true}
 use lib.Dec.{leb}
@@ -15,7 +15,7 @@ use Rattle.laws.proofs.Tests.{both, between}
 use Rattle.meaning.specs.Questions.{_unless_, _orelse_, within, number}
 use Rattle.meaning.specs.Book.{bookRefusal}
 use Rattle.meaning.specs.Reply.{checkedReply, decodedReply, decode, writtenOver}
-use Rattle.meaning.specs.Round.{areRising, areEnds, directionsOf, roundRefusal, decodeRound, RoundLists, keptIfRefused, alone, answerNumbers}
+use Rattle.meaning.specs.Round.{areRising, directionsOf, roundRefusal, decodeRound, RoundLists, keptIfRefused, alone, answerNumbers}
 use Rattle.meaning.specs.declared.Checked.the-variants.{Passed, Refused}
 use Rattle.meaning.specs.declared.Refusal.{Refusal}
 use Rattle.meaning.proofs.Chains.{first-passes, rest-passes, test-passes}
@@ -23,7 +23,7 @@ use Rattle.meaning.proofs.Lengths.{words-keep, answer-nine}
 use Rattle.meaning.proofs.Numbered.{number-from, refused-reply}
 use Rattle.meaning.proofs.Parts.{endBefore, directions-count, rising-at, parts-whole, parts-long, store-long as store-same}
 use Rattle.records.specs.Plain.{stepsOf}
-use Rattle.lists.specs.Steps.{recordsIn, numbersOf, asNumbers, lentNumbers}
+use Rattle.lists.specs.Steps.{numbersOf, asNumbers, lentNumbers}
 use Rattle.lists.proofs.Threes.{how-many}
 use Rattle.lists.proofs.Rounds.{numbers-keep}
 use Rattle.answer.specs.declared.PlainReply.{PlainReply}
@@ -31,13 +31,10 @@ use Rattle.round_parts.specs.Told.{isSearched}
 use Rattle.round_parts.specs.Places.{placesAt, putAt, DecodesAt}
 use Rattle.opening.specs.Opening.{Open}
 use Rattle.opening.specs.declared.Counts.{Counts}
+use Rattle.round_parts.proofs.Asking.{asked-is}
 use Rattle.round_parts.specs.Asked.{areRisingTo, behindBook}
 use Rattle.round_parts.specs.declared.ask.Room.{Room}
 use Rattle.rounds.proofs.Going.{Roomy, Going, direction-is, going-on, eachSteps, eachWords, eachAnswer}
-
-grouped : (a b c : Bool) → (a && b) && c ≡ a && (b && c)
-grouped true b c = refl
-grouped false b c = refl
 
 module _ (loaded : List ℤ) (directions ends : List ℕ) (steps₀ words₀ : List ℕ) (store₀ answers₀ : List ℤ) where
   -- the room that is lent
@@ -46,12 +43,9 @@ module _ (loaded : List ℤ) (directions ends : List ℕ) (steps₀ words₀ : L
 
   -- the questions as they are asked are those of the definition
   pub refusal-is : roundRefusal loaded directions ends (lentNumbers steps₀ words₀ store₀) (length answers₀) ≡ bookRefusal loaded orelse behindBook (length directions) ends roomIn
-  unfolding roundRefusal areEnds
   refusal-is =
-      ap (λ (b : Bool). bookRefusal loaded orelse 26 unless b orelse 12 unless (leb (32 * length ends) (length (recordsIn steps₀)) && leb (256 * length ends) (length words₀) && leb (9 * length ends) (length answers₀)))
-      (grouped (within 1 64 (length ends)) (areRising 0 ends) (all (λ end. leb end (length directions)) ends))
-      ∙ ap (λ (n : ℕ). bookRefusal loaded orelse 26 unless (within 1 64 (length ends) && areRisingTo (length directions) 0 ends) orelse 12 unless (leb (32 * length ends) n && leb (256 * length ends) (length words₀) && leb (9 * length ends) (length answers₀)))
-      (how-many steps₀)
+      asked-is loaded directions ends (lentNumbers steps₀ words₀ store₀) (length answers₀)
+      ∙ ap (λ (n : ℕ). bookRefusal loaded orelse behindBook (length directions) ends (record { steps = n; words = length words₀; answers = length answers₀ })) (how-many steps₀)
 
   -- ════ they pass
 

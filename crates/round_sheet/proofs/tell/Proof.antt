@@ -1,33 +1,30 @@
+-- A sheet that is put, or a refusal.
+use mathlib.Core.Path.{refl, ap}
+use Rattle.meaning.specs.Reply.{done}
+use Rattle.decimals.proofs.Laws.{put-over}
 use borrow.Author.Needs.{needs}
 use Rattle.round_sheet.proofs.tell.Statement.{statement}
 use Rattle.round_sheet.proofs.tell.Tie as tie
-use Rattle.round_sheet.proofs.tell.Reads as reads
-use Rattle.round_sheet.proofs.tell.Lts as lts
-use Rattle.sheet.proofs.put_sheet.Reads as put-sheet-reads
 
--- src/lib.rt:40:59
 enum-told : tie.Need-enum-told
 enum-told c = search needs
 
--- src/lib.rt:40:42
 put-sheet-requires : tie.Need-put-sheet-requires
-put-sheet-requires c κs = ?
+put-sheet-requires c κs = rw (c .before .enum-told .given .1) at (c .before .before .before .before .pre)
 
--- src/lib.rt:41:26
 enum-known-reply : tie.Need-enum-known-reply
 enum-known-reply c = search needs
 
--- src/lib.rt:35:1
 same-length : tie.Need-same-length
 same-length c = search needs
 
--- src/lib.rt:35:1
 returns : tie.Need-returns
-returns c = ?
+returns c =
+    let p = put-over (c .before .before .put-sheet .ensures) in
+    rw (c .before .before .before .before .enum-told .given .1) (ap done (p .0), p .1)
 
--- src/lib.rt:35:1
 returns-2 : tie.Need-returns-2
-returns-2 c = ?
+returns-2 c = rw (c .before .reply .given .1) (refl, refl)
 
 pub tell-spec : {M : Type 1} → statement M
 tell-spec =
