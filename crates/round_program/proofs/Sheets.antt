@@ -2,7 +2,7 @@
 use Prim.Native.Nat.{ℕ, zero, suc, _+_, _*_, _/_, _≤_}
 use native.Mathlib.Omega.{arith}
 use mathlib.Core.Path.{_≡_, refl, sym, _∙_, ap, subst}
-use mathlib.Core.Bool.{true, _&&_}
+use mathlib.Core.Bool.{true, false, _&&_}
 use mathlib.Core.List.{List, _++_, map}
 use borrow.Author.Tests.{le-leb}
 use lib.Dec.{leb}
@@ -10,7 +10,7 @@ use lib.IntN.{ℤ, negsuc}
 use lib.ListN.{length, drop, length-append, length-drop}
 use Rattle.laws.specs.Lists.{all}
 use Rattle.laws.proofs.Tests.{both, both-of, between}
-use Rattle.meaning.specs.Questions.{_unless_, within, number}
+use Rattle.meaning.specs.Questions.{_unless_, _orelse_, within, number}
 use Rattle.meaning.specs.Book.{bookRefusal}
 use Rattle.meaning.specs.Direction.{directionOf}
 use Rattle.meaning.specs.Reply.{Lent, done, refused, writtenIf, writtenOver}
@@ -34,6 +34,15 @@ refusal-printed loaded ds refusal e = by (number refusal) (number-from refusal) 
     by : (j : ℕ) → 1 ≤ j → printedRefusal j ≡ printedSheet j loaded ds
     by zero l = absurd (omega arith)
     by (suc j) l = refl
+
+-- 26, and then the directions' questions
+module _ (loaded : List ℤ) (texts : List (List ℕ)) where
+  pub not-a-round : within 1 64 (length texts) ≡ false → printedRefusal 26 ≡ printedSheet (26 unless within 1 64 (length texts) orelse textsRefusal texts) loaded (map directionOf texts)
+  not-a-round e = rw e refl
+
+  pub a-round : within 1 64 (length texts) ≡ true
+      → printedSheet (textsRefusal texts) loaded (map directionOf texts) ≡ printedSheet (26 unless within 1 64 (length texts) orelse textsRefusal texts) loaded (map directionOf texts)
+  a-round e = rw e refl
 
 -- ════ the lists that are lent
 
