@@ -1,7 +1,7 @@
 -- The book is read whatever it is, so the program's questions are those of the definition.
-use Prim.Native.Nat.{ℕ, zero, suc, _*_, _≤_}
+use Prim.Native.Nat.{ℕ, zero, suc, _≤_}
 use native.Mathlib.Omega.{arith}
-use mathlib.Core.Path.{_≡_, refl, sym, _∙_, ap, subst}
+use mathlib.Core.Path.{_≡_, refl, sym, _∙_, ap}
 use mathlib.Core.Bool.{Bool, true, false, _&&_}
 use mathlib.Core.List.{List, map}
 use borrow.Author.Tests.{leb-true}
@@ -20,7 +20,6 @@ use Rattle.meaning.proofs.Loaded.{read-passes}
 use Rattle.meaning.proofs.Numbered.{number-from}
 use Rattle.rendering.proofs.Inputs.{Filled, book-places}
 use Rattle.round_program.specs.Parts.{printedSheet}
-use Rattle.round_program.proofs.Sheets.{refusal-printed}
 
 -- the book that was read passes every question
 pub read-book-passes : (bookText : List ℕ) {n : ℕ} {after : List ℤ} → Filled (readRefusal bookText 8_192) n (loadedOf bookText) after → bookRefusal (take n after) ≡ 0

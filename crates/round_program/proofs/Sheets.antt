@@ -1,5 +1,5 @@
 -- The program's lists are long enough for 64 directions, so what is put is the sheet, or the refusal.
-use Prim.Native.Nat.{ℕ, zero, suc, _+_, _*_, _/_, _≤_}
+use Prim.Native.Nat.{ℕ, zero, suc, _*_, _/_, _≤_}
 use native.Mathlib.Omega.{arith}
 use mathlib.Core.Path.{_≡_, refl, sym, _∙_, ap, subst}
 use mathlib.Core.Bool.{true, false, _&&_}
@@ -13,7 +13,7 @@ use Rattle.laws.proofs.Tests.{both, both-of, between}
 use Rattle.meaning.specs.Questions.{_unless_, _orelse_, within, number}
 use Rattle.meaning.specs.Book.{bookRefusal}
 use Rattle.meaning.specs.Direction.{directionOf}
-use Rattle.meaning.specs.Reply.{Lent, done, refused, writtenIf, writtenOver}
+use Rattle.meaning.specs.Reply.{done, refused, writtenIf}
 use Rattle.meaning.specs.Render.{printedRefusal}
 use Rattle.meaning.specs.Round.{areRising, areEnds, directionsOf, roundRefusal}
 use Rattle.meaning.specs.Sheet.{sheetOf, rowsOf, sheetRefusal, roundSheet, sheetReply, textsRefusal}

@@ -1,6 +1,5 @@
 -- The lists that are lent are long enough; a round that is refused leaves `out` as it was.
 use native.Mathlib.Omega.{arith}
-use mathlib.Core.List.{List}
 use Prim.Native.Nat.{ℕ}
 use lib.IntN.{ℤ, pos}
 use lib.ListN.{replicate, length-replicate}
