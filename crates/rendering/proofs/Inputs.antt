@@ -69,7 +69,7 @@ module _ (text : List ℕ) (read : Read) where
 -- ════ the lists' lengths
 
 -- a loaded book has no more numbers than its text bytes
-book-places : (text : List ℕ) → length text ≤ 8_192 → readRefusal text 8_192 ≡ readRefusal text (length (loadedOf text))
+pub book-places : (text : List ℕ) → length text ≤ 8_192 → readRefusal text 8_192 ≡ readRefusal text (length (loadedOf text))
 book-places text h = read-room text 8_192 (length (loadedOf text)) (λ t. omega (arith, loaded-few text t)) (λ _. le-refl _)
 
 -- a direction that 9 passes has at most 32 words

@@ -1,0 +1,4 @@
+pub mod Lines
+pub mod Placing
+pub mod Standing
+pub mod Reading
