@@ -11,6 +11,7 @@ second list BOOKFILE DIRECTIONFILE          every valid derivation, best first, 
 second load BOOKFILE                        the loaded list
 second words BOOKFILE ENTRY                 an entry's target words
 second render                               book.txt and standard input
+second round                                the same, for the sheet of a round
 second drawers                              the twelve marked drawers
 second emit SEED COUNT [small|ties|middle]  random calls of decode with their replies
 second campaign SEED COUNT                  random trials against the plain walks
@@ -51,8 +52,12 @@ fn main() {
             format!("{start},{size}: {}", row(&list[start..start + size]))
         })),
         ["render"] => {
-            let book = std::fs::File::open("book.txt").map_or(Vec::new(), |f| up_to(f, 8193));
-            render(&book, &up_to(std::io::stdin(), 513))
+            let (book, direction) = texts(8193, 513);
+            render(&book, &direction)
+        }
+        ["round"] => {
+            let (book, input) = texts(8193, 32_769);
+            sheet_cases::printed(sheet_cases::program(&book, &input))
         }
         ["drawers"] => drawers().into_bytes(),
         ["emit", seed, count] => emit(number(seed), number(count), "small").into_bytes(),
@@ -116,6 +121,13 @@ fn up_to(from: impl Read, most: u64) -> Vec<u8> {
     let mut bytes = Vec::new();
     let _ = from.take(most).read_to_end(&mut bytes);
     bytes
+}
+
+/// So many bytes of book.txt, which is empty where it can't be opened, and of standard input.
+fn texts(book: u64, input: u64) -> (Vec<u8>, Vec<u8>) {
+    let file = std::fs::File::open("book.txt");
+    let book = file.map_or(Vec::new(), |file| up_to(file, book));
+    (book, up_to(std::io::stdin(), input))
 }
 
 fn read_both(book: &str, direction: &str) -> Result<(Vec<i32>, Vec<u16>), u8> {
