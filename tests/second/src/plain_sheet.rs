@@ -28,7 +28,7 @@ pub fn round_sheet(
     (Ok(bytes.len()), lists, after)
 }
 
-/// The sheet of directions with those answers, last to first: whatever stands before a row is not looked at.
+/// The sheet of directions with those answers, made from its last byte to its first.
 fn bytes_of(alone: &[Result<Answer, u8>]) -> Vec<u8> {
     let found = || alone.iter().flatten();
     let words: usize = found().map(|answer| answer.words.len()).sum();

@@ -76,9 +76,9 @@ impl RoundCase {
             .collect()
     }
 
-    /// What each direction was answered; nothing for a round that was refused.
-    pub fn inside(&self, reply: Result<(), u8>, after: &Lists) -> Vec<u8> {
-        let count = if reply.is_ok() { self.ends.len() } else { 0 };
+    /// What each direction was answered; nothing for a round that was not accepted.
+    pub fn inside(&self, accepted: bool, after: &Lists) -> Vec<u8> {
+        let count = if accepted { self.ends.len() } else { 0 };
         let firsts = after.answers.iter().step_by(ANSWER);
         firsts.take(count).map(|&code| code as u8).collect()
     }

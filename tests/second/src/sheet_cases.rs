@@ -77,7 +77,7 @@ pub fn printed(sheet: Result<Vec<u8>, u8>) -> Vec<u8> {
 #[derive(Clone, Copy, Debug, PartialEq)]
 pub enum Flaw {
     None,
-    /// 7: a byte more than the program takes, or some more.
+    /// 7: a byte more than the program takes.
     Bytes,
     /// The book, by that question.
     Book(u8),
@@ -110,10 +110,9 @@ pub fn texts(rng: &mut Rng, shape: &Shape, flaw: Flaw) -> (Vec<u8>, Vec<u8>) {
     }
     let mut input = lines.concat();
     if flaw == Flaw::Bytes {
-        let more = rng.pick(&[1, 1, 2, 50]);
-        match rng.below(8) {
-            0 => input.resize(INPUT_BYTES + more, b'1'),
-            _ => book.resize(BOOK_BYTES + more, b'1'),
+        match rng.below(4) {
+            0 => input.resize(INPUT_BYTES + 1, b'1'),
+            _ => book.resize(BOOK_BYTES + 1, b'1'),
         }
     }
     (book, input)

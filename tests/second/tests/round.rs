@@ -89,7 +89,7 @@ fn asked(case: &RoundCase) -> (Result<(), u8>, Lists) {
 /// What the directions are answered, or the refusal of the round.
 fn codes(case: &RoundCase) -> Result<Vec<u8>, u8> {
     let (reply, after) = asked(case);
-    reply.map(|()| case.inside(reply, &after))
+    reply.map(|()| case.inside(reply.is_ok(), &after))
 }
 
 /// "Each answer, with its steps and words": four directions, by hand.
@@ -563,7 +563,7 @@ fn random_rounds() {
                 Flaw::Ends => {}
             }
             tally.count("decode_round", reply.err().unwrap_or(0));
-            for code in round.inside(reply, &after) {
+            for code in round.inside(reply.is_ok(), &after) {
                 tally.count(rounds::DIRECTION_OF_A_ROUND, code);
             }
         }
