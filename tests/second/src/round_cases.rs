@@ -140,6 +140,22 @@ pub fn with_flaw(rng: &mut Rng, shape: &Shape, flaw: Flaw) -> RoundCase {
     case
 }
 
+/// A round whose scores add up to more than 2 to the 31, on that side of 0: each word of its long directions has an entry of eight words,
+/// and each of these scores nearly as much as a score may.
+pub fn heavy(rng: &mut Rng, sign: i32) -> RoundCase {
+    let [u, g] = [0; 2].map(|_| sign * (1_000_000 - rng.below(1_000) as i32));
+    let mut book = vec![1, 0, 0, u, 1, 0, 2, 1, 8, 11];
+    book.extend([7; 8]);
+    book.push(g);
+    let count = 8 + rng.below(56);
+    let mut directions: Vec<Vec<u16>> = (0..count).map(|_| vec![11; 32 - rng.below(2)]).collect();
+    if rng.chance(1, 3) {
+        let refused = rng.pick(&[0, 12]);
+        directions.insert(rng.below(count), vec![refused]);
+    }
+    RoundCase::of(&book, &directions, -1, 8 * 40)
+}
+
 /// 1 to 64 directions: ones that fit the book, ones that do not, ones too long or with a 0, and ones that were there before.
 fn directions(rng: &mut Rng, shape: &Shape, book: Option<&Book>) -> Vec<Vec<u16>> {
     let most = if shape.max_direction > 6 { 6 } else { 64 };

@@ -5,6 +5,7 @@ use crate::gen::{self, DecodeCase, Rng, Shape};
 use crate::imports::{self, Flaw, ImportCase};
 use crate::round::Lists;
 use crate::round_cases::{self, RoundCase};
+use crate::sheet::SHEET;
 use crate::sheet_cases::SheetCase;
 use crate::Step;
 use std::collections::BTreeMap;
@@ -397,7 +398,7 @@ fn with_sheet(rng: &mut Rng, case: &RoundCase, calls: &mut dyn Calls) {
 }
 
 /// Directions together: good rounds, the same with the store just enough for each of them and just not, rounds that 26 and 12 refuse, and
-/// rounds with books that are broken. Each is asked for its sheet too.
+/// rounds with books that are broken. Each is asked for its sheet too; and sheets with sums of more than 32 bits.
 pub fn directions_together(rng: &mut Rng, shape: &Shape, calls: &mut dyn Calls) {
     use round_cases::Flaw::*;
     for flaw in [None, None, None, Ends, Ends, Short] {
@@ -415,6 +416,11 @@ pub fn directions_together(rng: &mut Rng, shape: &Shape, calls: &mut dyn Calls) 
     for code in [2, 3, 4, 6, 20, 21] {
         let case = round_cases::with_flaw(rng, shape, Book(code));
         with_sheet(rng, &case, calls);
+    }
+    for sign in [-1, 1] {
+        let round = round_cases::heavy(rng, sign);
+        let sheet_len = SHEET;
+        calls.sheet(rng, &SheetCase { round, sheet_len });
     }
 }
 
