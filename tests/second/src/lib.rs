@@ -27,6 +27,17 @@ pub use plain::all_derivations;
 pub use round::decode_round;
 pub use sheet::round_sheet;
 
+/// The book of 01's example, and of its marked drawers.
+pub const EXAMPLE: &str = "B,2,-10,-500
+P,1,1,11,101,-20
+P,1,1,12,102,-30
+P,2,2,11,12,102,101,-70
+T,0,0,101,-40
+T,0,101,102,-60
+T,0,0,102,-15
+T,0,102,101,-25
+";
+
 /// A step: first, last, entry; all counted from 1.
 pub type Step = (u16, u16, u16);
 

@@ -2,9 +2,6 @@ use second::gen::{Rng, Shape};
 use second::*;
 use std::io::{Read, Write};
 
-const BOOK: &str = "B,2,-10,-500\nP,1,1,11,101,-20\nP,1,1,12,102,-30\n\
-P,2,2,11,12,102,101,-70\nT,0,0,101,-40\nT,0,101,102,-60\nT,0,0,102,-15\nT,0,102,101,-25\n";
-
 const USAGE: &str = "second decode BOOKFILE DIRECTIONFILE WIDTH STATES
 second score BOOKFILE DIRECTIONFILE FIRST,LAST,ENTRY ...  the score and the four counts
 second list BOOKFILE DIRECTIONFILE          every valid derivation, best first, of equal score the first in order
@@ -171,7 +168,7 @@ fn steps_text(steps: &[Step]) -> String {
 
 /// One line for each drawer: its letter and the reply, the reply's lines parted by blanks.
 fn drawers() -> String {
-    let short = BOOK.replace("P,2,2,11,12,102,101,-70\n", "");
+    let short = EXAMPLE.replace("P,2,2,11,12,102,101,-70\n", "");
     let with_d = |book: &str, d: u32| book.replace("B,2,", &format!("B,{d},"));
     let mut out = String::new();
     let mut add = |letter: char, book: &str, direction: &[u16], width: i64, states: usize| {
@@ -184,18 +181,18 @@ fn drawers() -> String {
         ));
     };
     let direction = [11, 12];
-    add('a', BOOK, &direction, -1, 6);
-    add('b', BOOK, &direction, -1, 5);
-    add('c', &with_d(BOOK, 0), &direction, -1, 512);
+    add('a', EXAMPLE, &direction, -1, 6);
+    add('b', EXAMPLE, &direction, -1, 5);
+    add('c', &with_d(EXAMPLE, 0), &direction, -1, 512);
     add('d', &with_d(&short, 2), &direction, -1, 512);
     add('e', &with_d(&short, 1), &direction, -1, 512);
     add('f', &with_d(&short, 1), &direction, 0, 512);
     add('g', &with_d(&short, 1), &direction, 5, 512);
-    add('h', BOOK, &direction, 0, 512);
-    add('i', BOOK, &[11, 13], -1, 512);
-    add('j', BOOK, &[], -1, 512);
-    add('k', BOOK, &direction, -2, 512);
-    let book = read_book(BOOK.as_bytes(), usize::MAX).unwrap();
+    add('h', EXAMPLE, &direction, 0, 512);
+    add('i', EXAMPLE, &[11, 13], -1, 512);
+    add('j', EXAMPLE, &[], -1, 512);
+    add('k', EXAMPLE, &direction, -2, 512);
+    let book = read_book(EXAMPLE.as_bytes(), usize::MAX).unwrap();
     let scored = scoring_reply(score(&book, &direction, &[]));
     out.push_str(&format!("l {}", String::from_utf8(scored).unwrap()));
     out

@@ -173,6 +173,8 @@ fn directions(rng: &mut Rng, shape: &Shape, book: Option<&Book>) -> Vec<Vec<u16>
             (1, _) => gen::direction_saying(rng, shape, 10),
             (2 | 3, _) if !all.is_empty() => all[rng.below(all.len())].clone(),
             (4..=9, Some(book)) => gen::direction_from(rng, shape, book),
+            // A word of no entry.
+            (10, _) => [gen::direction(rng, shape), vec![7_777]].concat(),
             _ => gen::direction(rng, shape),
         };
         all.push(one);
