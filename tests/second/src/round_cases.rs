@@ -147,7 +147,7 @@ pub fn heavy(rng: &mut Rng, sign: i32) -> RoundCase {
     let mut book = vec![1, 0, 0, u, 1, 0, 2, 1, 8, 11];
     book.extend([7; 8]);
     book.push(g);
-    let count = 8 + rng.below(56);
+    let count = 8 + rng.below(13);
     let mut directions: Vec<Vec<u16>> = (0..count).map(|_| vec![11; 32 - rng.below(2)]).collect();
     if rng.chance(1, 3) {
         let refused = rng.pick(&[0, 12]);
