@@ -477,10 +477,8 @@ fn answer(case: &mut Case) -> Said {
             let asked = case.import();
             edited("import_arpa", &asked.list, asked.answer(), case.number())
         }
-        12 => round(case, false),
-        13 => round(case, true),
-        14 => round_sheet(case, false),
-        15 => round_sheet(case, true),
+        call @ (12 | 13) => round(case, call == 13),
+        call @ (14 | 15) => round_sheet(case, call == 15),
         16 => round_program(case),
         k => panic!("call {k}"),
     }

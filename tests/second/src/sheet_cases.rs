@@ -137,17 +137,19 @@ fn lines(rng: &mut Rng, shape: &Shape, book: &[u8]) -> Vec<Vec<u8>> {
 /// One line that the question refuses; those behind it may be refused by another.
 fn break_line(rng: &mut Rng, shape: &Shape, lines: &mut [Vec<u8>], code: u8) {
     let at = rng.below(lines.len());
+    let is_last = at + 1 == lines.len();
+    // One line; the last may be without its byte 10.
+    let is_line = |text: &[u8]| match text.iter().position(|&byte| byte == b'\n') {
+        Some(k) => k + 1 == text.len(),
+        None => is_last && !text.is_empty(),
+    };
     lines[at] = loop {
-        let line = gen::direction_text_saying(rng, shape, code);
-        let ended = line.iter().position(|&byte| byte == b'\n');
-        // One line, or a last one without its byte 10.
-        if ended.map_or(at == lines.len() - 1 && !line.is_empty(), |k| {
-            k + 1 == line.len()
-        }) {
-            break line;
+        let text = gen::direction_text_saying(rng, shape, code);
+        if is_line(&text) {
+            break text;
         }
     };
-    if at + 1 < lines.len() && rng.chance(1, 3) {
+    if !is_last && rng.chance(1, 3) {
         let later = rng.pick(&[8, 9, 10]);
         break_line(rng, shape, &mut lines[at + 1..], later);
     }

@@ -514,9 +514,14 @@ fn the_first_refused_line() {
             }
         }
     }
-    // Lines of the border, and ones that are no lines of numbers.
+}
+
+/// Lines at the border, and ones that are no lines of numbers.
+#[test]
+fn single_lines() {
+    let most = [&"11,".repeat(31), "11\n"].concat();
     for (line, code) in [
-        (&long[3..], 0),
+        (&most[..], 0),
         ("65535\n", 0),
         ("65536\n", 10),
         ("9999999\n", 10),
