@@ -138,11 +138,13 @@ impl<'a> Case<'a> {
     }
 }
 
-/// What a list is full of before the call: numbers that count up from `fill`, and 0 follows 65,535.
+/// What a list is full of before the call, place by place: numbers that count up from `fill`, and 0 follows 65,535.
+fn filled(fill: u16) -> impl Fn(usize) -> u64 {
+    move |k| fill.wrapping_add(k as u16) as u64
+}
+
 fn garbage(fill: u16, places: usize) -> Vec<i64> {
-    (0..places)
-        .map(|i| fill.wrapping_add(i as u16) as i64)
-        .collect()
+    (0..places).map(filled(fill)).map(|z| z as i64).collect()
 }
 
 /// A step as it is printed.
@@ -328,7 +330,7 @@ fn whole<T: Copy + Into<i64>>(after: &[T], fill: u16, places: usize) -> (Vec<i64
     (before, after)
 }
 
-/// A list of bytes that was lent, of those many places.
+/// A list of bytes that was lent, of so many places.
 fn bytes(name: &str, written: &[u8], fill: u16, places: usize) -> String {
     let before: Vec<u8> = garbage(fill, places).iter().map(|&z| z as u8).collect();
     lent(name, &over(written.iter().copied(), &before), &before)
@@ -382,11 +384,6 @@ fn round_sheet(case: &mut Case, records: bool) -> Said {
         on_sheets: asked.round.inside(reply.is_ok(), &after.lists),
         ..said(call, &reply, text)
     }
-}
-
-/// The number that the fill puts at a place.
-fn filled(fill: u16) -> impl Fn(usize) -> u64 {
-    move |k| fill.wrapping_add(k as u16) as u64
 }
 
 /// A scoring against the plain walk, from question 16 on.
@@ -490,7 +487,7 @@ pub fn decode_of(line: &str) -> Option<DecodeCase> {
     (case.number::<u8>() == 6).then(|| case.decode())
 }
 
-/// The round that a line asks for, or the sheet of which it asks for, if there is one.
+/// The round that a line asks for, or asks the sheet of, if there is one.
 pub fn round_of(line: &str) -> Option<RoundCase> {
     let mut case = Case(line.split_once('|')?.1.split_whitespace());
     match case.number::<u8>() {
