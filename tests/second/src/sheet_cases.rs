@@ -96,11 +96,7 @@ pub fn texts(rng: &mut Rng, shape: &Shape, flaw: Flaw) -> (Vec<u8>, Vec<u8>) {
     let mut book = gen::text_saying(rng, shape, code);
     let mut lines = lines(rng, shape, &book);
     if flaw == Flaw::Lines || (code != 0 && rng.chance(1, 4)) {
-        let count = rng.pick(&[0, 0, 65, 65, 66, 100]);
-        lines.truncate(count);
-        while lines.len() < count {
-            lines.push(b"11\n".to_vec());
-        }
+        lines = wrong_number(rng, lines);
     }
     if let Flaw::Line(code) = flaw {
         break_line(rng, shape, &mut lines, code);
@@ -116,6 +112,17 @@ pub fn texts(rng: &mut Rng, shape: &Shape, flaw: Flaw) -> (Vec<u8>, Vec<u8>) {
         }
     }
     (book, input)
+}
+
+/// No lines, or more than 64, of which the last may be without its byte 10.
+fn wrong_number(rng: &mut Rng, mut lines: Vec<Vec<u8>>) -> Vec<Vec<u8>> {
+    let count = rng.pick(&[0, 0, 65, 65, 65, 66, 100]);
+    lines.resize(count, b"11\n".to_vec());
+    match lines.last_mut() {
+        Some(last) if rng.chance(1, 3) => last.truncate(1),
+        _ => {}
+    }
+    lines
 }
 
 /// 1 to 64 lines with good directions, of which most fit the book.
