@@ -5,6 +5,7 @@ use crate::edits::EditCase;
 use crate::gen::{self, DecodeCase, Rng, Shape};
 use crate::imports::ImportCase;
 use crate::round_cases::RoundCase;
+use crate::sheet_cases::SheetCase;
 use crate::{plain, *};
 use std::collections::BTreeMap;
 
@@ -597,6 +598,14 @@ impl rounds::Calls for Tally {
                 assert_eq!(after.answers[9 * k], code as i64, "{case:?}");
                 self.reply(rounds::DIRECTION_OF_A_ROUND, &result);
             }
+        }
+    }
+    fn sheet(&mut self, rng: &mut Rng, case: &SheetCase) {
+        let (reply, after) = case.answer(&case.lists(|_| rng.draw()));
+        self.reply("round_sheet", &reply);
+        for code in case.round.inside(reply.is_ok(), &after.lists) {
+            let said = if code == 0 { Ok(()) } else { Err(code) };
+            self.reply(rounds::LINE_OF_A_SHEET, &said);
         }
     }
     fn same_book(&mut self, _: &mut Rng, text: &[u8], case: &DecodeCase, _: &[Step]) {

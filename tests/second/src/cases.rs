@@ -8,6 +8,8 @@ use crate::gen::DecodeCase;
 use crate::imports::ImportCase;
 use crate::round::Lists;
 use crate::round_cases::RoundCase;
+use crate::sheet::{BOOK_BYTES, INPUT_BYTES, SHEET};
+use crate::sheet_cases::{self, SheetCase};
 use crate::ways::Ways;
 use crate::{plain, Answer, Scoring, Step, Supplied};
 use std::fmt::{Display, Write};
@@ -30,8 +32,11 @@ pub const ROUND_STEPS: usize = 6_400;
 pub const ROUND_RECORDS: usize = 1_100;
 pub const ROUND_WORDS: usize = 16_700;
 pub const ANSWERS: usize = 600;
-/// What the rendering program takes, and one byte more; the bytes that it may print.
+/// Bytes of a round's sheet.
+pub const SHEET_BYTES: usize = 2_100;
+/// What the rendering program takes, and one byte more; the bytes that it may print. The same of the program `round`.
 pub const RENDERED: (usize, usize, usize) = (8_193, 513, 4_096);
+pub const ROUND_PRINTED: (usize, usize, usize) = (BOOK_BYTES + 1, INPUT_BYTES + 1, SHEET);
 
 /// The numbers of a case that are not yet read.
 struct Case<'a>(SplitWhitespace<'a>);
@@ -117,6 +122,13 @@ impl<'a> Case<'a> {
             answers_len: self.count(ANSWERS),
         }
     }
+    /// A round's sheet.
+    fn sheet(&mut self, records: bool) -> SheetCase {
+        SheetCase {
+            round: self.round(records),
+            sheet_len: self.count(SHEET_BYTES),
+        }
+    }
     fn edit(&mut self, edit: impl Fn(&mut Self) -> Edit) -> EditCase {
         EditCase {
             list: self.list(READ),
@@ -126,11 +138,13 @@ impl<'a> Case<'a> {
     }
 }
 
-/// What a list is full of before the call: numbers that count up from `fill`, and 0 follows 65,535.
+/// What a list is full of before the call, place by place: numbers that count up from `fill`, and 0 follows 65,535.
+fn filled(fill: u16) -> impl Fn(usize) -> u64 {
+    move |k| fill.wrapping_add(k as u16) as u64
+}
+
 fn garbage(fill: u16, places: usize) -> Vec<i64> {
-    (0..places)
-        .map(|i| fill.wrapping_add(i as u16) as i64)
-        .collect()
+    (0..places).map(filled(fill)).map(|z| z as i64).collect()
 }
 
 /// A step as it is printed.
@@ -183,8 +197,9 @@ pub struct Said {
     pub shared: bool,
     /// How the target words of a successful scoring or decode were scored, to which its four counts are held.
     pub ways: Ways,
-    /// What each direction of a round was answered.
+    /// What each direction of a round was answered, and what each line of a sheet says.
     pub inside: Vec<u8>,
+    pub on_sheets: Vec<u8>,
 }
 
 fn said<T>(call: &'static str, reply: &Result<T, u8>, text: String) -> Said {
@@ -196,6 +211,7 @@ fn said<T>(call: &'static str, reply: &Result<T, u8>, text: String) -> Said {
         shared: false,
         ways: Ways::default(),
         inside: Vec::new(),
+        on_sheets: Vec::new(),
     }
 }
 
@@ -225,6 +241,11 @@ fn read_book(case: &mut Case) -> Said {
     said("read_book", &reply, line)
 }
 
+/// A reply that is a count.
+fn counted(reply: Result<usize, u8>) -> String {
+    reply.map_or_else(|k| format!("R,{k}"), |count| format!("N,{count}"))
+}
+
 /// An edit or an import: what is replied, and the list afterwards, with garbage behind it, held to what it was before.
 fn edited(
     call: &'static str,
@@ -232,10 +253,9 @@ fn edited(
     (reply, after): (Result<usize, u8>, Vec<i32>),
     fill: u16,
 ) -> Said {
-    let head = reply.map_or_else(|k| format!("R,{k}"), |count| format!("N,{count}"));
     let garbage = garbage(fill, READ);
     let whole = |list: &[i32]| over(list.iter().map(|&z| z as i64), &garbage);
-    let text = head + &lent("book", &whole(&after), &whole(before));
+    let text = counted(reply) + &lent("book", &whole(&after), &whole(before));
     said(call, &reply, text)
 }
 
@@ -310,38 +330,58 @@ fn whole<T: Copy + Into<i64>>(after: &[T], fill: u16, places: usize) -> (Vec<i64
     (before, after)
 }
 
-/// A round, its steps as numbers or as records.
+/// A list of bytes that was lent, of so many places.
+fn bytes(name: &str, written: &[u8], fill: u16, places: usize) -> String {
+    let before: Vec<u8> = garbage(fill, places).iter().map(|&z| z as u8).collect();
+    lent(name, &over(written.iter().copied(), &before), &before)
+}
+
+/// The lists after a round, with steps as numbers or as records.
+fn round_lists(after: &Lists, records: bool, fill: u16) -> String {
+    let numbers = |name: &str, (before, after): (Vec<i64>, Vec<i64>)| lent(name, &after, &before);
+    let steps = match records {
+        true => {
+            let (before, after) = whole(&after.steps, fill, 3 * ROUND_RECORDS);
+            lent("steps", &step_texts(&after), &step_texts(&before))
+        }
+        false => numbers("steps", whole(&after.steps, fill, ROUND_STEPS)),
+    };
+    steps
+        + &numbers("words", whole(&after.words, fill, ROUND_WORDS))
+        + &numbers("store", whole(&after.store, fill, STORE))
+        + &numbers("answers", whole(&after.answers, fill, ANSWERS))
+}
+
+/// A round.
 fn round(case: &mut Case, records: bool) -> Said {
     let asked = case.round(records);
     let fill: u16 = case.number();
-    let lent_lists = asked.lists(|k| fill.wrapping_add(k as u16) as u64);
-    let (reply, after) = asked.answer(&lent_lists);
-    let Lists {
-        steps,
-        words,
-        store,
-        answers,
-    } = &after;
+    let (reply, after) = asked.answer(&asked.lists(filled(fill)));
     let head = reply.map_or_else(|k| format!("R,{k}"), |()| "passed".into());
-    let numbers = |name: &str, (before, after): (Vec<i64>, Vec<i64>)| lent(name, &after, &before);
-    let (call, steps) = match records {
-        true => {
-            let (before, after) = whole(steps, fill, 3 * ROUND_RECORDS);
-            let line = lent("steps", &step_texts(&after), &step_texts(&before));
-            ("decode_round with records", line)
-        }
-        false => {
-            let whole = whole(steps, fill, ROUND_STEPS);
-            ("decode_round", numbers("steps", whole))
-        }
+    let call = match records {
+        true => "decode_round with records",
+        false => "decode_round",
     };
-    let text = head
-        + &steps
-        + &numbers("words", whole(words, fill, ROUND_WORDS))
-        + &numbers("store", whole(store, fill, STORE))
-        + &numbers("answers", whole(answers, fill, ANSWERS));
     Said {
-        inside: asked.inside(reply, &after),
+        inside: asked.inside(reply.is_ok(), &after),
+        ..said(call, &reply, head + &round_lists(&after, records, fill))
+    }
+}
+
+/// A round's sheet.
+fn round_sheet(case: &mut Case, records: bool) -> Said {
+    let asked = case.sheet(records);
+    let fill: u16 = case.number();
+    let (reply, after) = asked.answer(&asked.lists(filled(fill)));
+    let call = match records {
+        true => "round_sheet with records",
+        false => "round_sheet",
+    };
+    let text = counted(reply)
+        + &round_lists(&after.lists, records, fill)
+        + &bytes("sheet", &after.sheet, fill, SHEET_BYTES);
+    Said {
+        on_sheets: asked.round.inside(reply.is_ok(), &after.lists),
         ..said(call, &reply, text)
     }
 }
@@ -382,12 +422,22 @@ fn shared(case: &DecodeCase, score: i64) -> bool {
 
 fn rendered(case: &mut Case) -> Said {
     let (book, direction) = (case.list::<u8>(RENDERED.0), case.list::<u8>(RENDERED.1));
-    let fill = case.number::<u16>() as usize;
     let out = crate::render(&book, &direction);
-    let before: Vec<u8> = (fill..fill + RENDERED.2).map(|z| z as u8).collect();
-    let after = over(out.iter().copied(), &before);
-    let text = format!("N,{}{}", out.len(), lent("out", &after, &before));
-    said("render", &Ok(()), text)
+    said("render", &Ok(()), printed(&out, case.number(), RENDERED.2))
+}
+
+/// What a program printed, in the list that it was lent.
+fn printed(out: &[u8], fill: u16, places: usize) -> String {
+    format!("N,{}{}", out.len(), bytes("out", out, fill, places))
+}
+
+/// The program `round`.
+fn round_program(case: &mut Case) -> Said {
+    let (book, input) = (case.list(ROUND_PRINTED.0), case.list(ROUND_PRINTED.1));
+    let sheet = sheet_cases::program(&book, &input);
+    let out = sheet_cases::printed(sheet.clone());
+    let text = printed(&out, case.number(), ROUND_PRINTED.2);
+    said("round program", &sheet, text)
 }
 
 /// What the second decoder says to the numbers of a case.
@@ -424,8 +474,9 @@ fn answer(case: &mut Case) -> Said {
             let asked = case.import();
             edited("import_arpa", &asked.list, asked.answer(), case.number())
         }
-        12 => round(case, false),
-        13 => round(case, true),
+        call @ (12 | 13) => round(case, call == 13),
+        call @ (14 | 15) => round_sheet(case, call == 15),
+        16 => round_program(case),
         k => panic!("call {k}"),
     }
 }
@@ -436,12 +487,12 @@ pub fn decode_of(line: &str) -> Option<DecodeCase> {
     (case.number::<u8>() == 6).then(|| case.decode())
 }
 
-/// The round that a line asks for, if it is one.
+/// The round that a line asks for, or asks the sheet of, if there is one.
 pub fn round_of(line: &str) -> Option<RoundCase> {
     let mut case = Case(line.split_once('|')?.1.split_whitespace());
     match case.number::<u8>() {
-        12 => Some(case.round(false)),
-        13 => Some(case.round(true)),
+        12 | 14 => Some(case.round(false)),
+        13 | 15 => Some(case.round(true)),
         _ => None,
     }
 }

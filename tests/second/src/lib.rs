@@ -1,4 +1,4 @@
-//! A second decoder, written from the papers alone (01-scope.md, tickets 1 to 7 of
+//! A second decoder, written from the papers alone (01-scope.md, tickets 1 to 8 of
 //! 02-change-requests.md, and Collins' notes 000, 001, 002). Standard library only. Refusals are the
 //! question numbers of 01 and 02.
 
@@ -13,15 +13,30 @@ pub mod imports;
 pub mod plain;
 pub mod plain_arpa;
 pub mod plain_round;
+pub mod plain_sheet;
 pub mod random_cases;
 pub mod round;
 pub mod round_cases;
 pub mod rounds;
+pub mod sheet;
+pub mod sheet_cases;
 pub mod ways;
 
 pub use arpa::import_arpa;
 pub use plain::all_derivations;
 pub use round::decode_round;
+pub use sheet::round_sheet;
+
+/// The book of 01's example, and of its marked drawers.
+pub const EXAMPLE: &str = "B,2,-10,-500
+P,1,1,11,101,-20
+P,1,1,12,102,-30
+P,2,2,11,12,102,101,-70
+T,0,0,101,-40
+T,0,101,102,-60
+T,0,0,102,-15
+T,0,102,101,-25
+";
 
 /// A step: first, last, entry; all counted from 1.
 pub type Step = (u16, u16, u16);

@@ -2,15 +2,13 @@ use second::gen::{Rng, Shape};
 use second::*;
 use std::io::{Read, Write};
 
-const BOOK: &str = "B,2,-10,-500\nP,1,1,11,101,-20\nP,1,1,12,102,-30\n\
-P,2,2,11,12,102,101,-70\nT,0,0,101,-40\nT,0,101,102,-60\nT,0,0,102,-15\nT,0,102,101,-25\n";
-
 const USAGE: &str = "second decode BOOKFILE DIRECTIONFILE WIDTH STATES
 second score BOOKFILE DIRECTIONFILE FIRST,LAST,ENTRY ...  the score and the four counts
 second list BOOKFILE DIRECTIONFILE          every valid derivation, best first, of equal score the first in order
 second load BOOKFILE                        the loaded list
 second words BOOKFILE ENTRY                 an entry's target words
 second render                               book.txt and standard input
+second round                                the same, for the sheet of a round
 second drawers                              the twelve marked drawers
 second emit SEED COUNT [small|ties|middle]  random calls of decode with their replies
 second campaign SEED COUNT                  random trials against the plain walks
@@ -51,8 +49,12 @@ fn main() {
             format!("{start},{size}: {}", row(&list[start..start + size]))
         })),
         ["render"] => {
-            let book = std::fs::File::open("book.txt").map_or(Vec::new(), |f| up_to(f, 8193));
-            render(&book, &up_to(std::io::stdin(), 513))
+            let (book, direction) = texts(8193, 513);
+            render(&book, &direction)
+        }
+        ["round"] => {
+            let (book, input) = texts(8193, 32_769);
+            sheet_cases::printed(sheet_cases::program(&book, &input))
         }
         ["drawers"] => drawers().into_bytes(),
         ["emit", seed, count] => emit(number(seed), number(count), "small").into_bytes(),
@@ -118,6 +120,13 @@ fn up_to(from: impl Read, most: u64) -> Vec<u8> {
     bytes
 }
 
+/// So many bytes of book.txt, which is empty where it can't be opened, and of standard input.
+fn texts(book: u64, input: u64) -> (Vec<u8>, Vec<u8>) {
+    let file = std::fs::File::open("book.txt");
+    let book = file.map_or(Vec::new(), |file| up_to(file, book));
+    (book, up_to(std::io::stdin(), input))
+}
+
 fn read_both(book: &str, direction: &str) -> Result<(Vec<i32>, Vec<u16>), u8> {
     let book = read_book(&read(book), usize::MAX)?;
     let direction = read_direction(&read(direction), usize::MAX)?;
@@ -159,7 +168,7 @@ fn steps_text(steps: &[Step]) -> String {
 
 /// One line for each drawer: its letter and the reply, the reply's lines parted by blanks.
 fn drawers() -> String {
-    let short = BOOK.replace("P,2,2,11,12,102,101,-70\n", "");
+    let short = EXAMPLE.replace("P,2,2,11,12,102,101,-70\n", "");
     let with_d = |book: &str, d: u32| book.replace("B,2,", &format!("B,{d},"));
     let mut out = String::new();
     let mut add = |letter: char, book: &str, direction: &[u16], width: i64, states: usize| {
@@ -172,18 +181,18 @@ fn drawers() -> String {
         ));
     };
     let direction = [11, 12];
-    add('a', BOOK, &direction, -1, 6);
-    add('b', BOOK, &direction, -1, 5);
-    add('c', &with_d(BOOK, 0), &direction, -1, 512);
+    add('a', EXAMPLE, &direction, -1, 6);
+    add('b', EXAMPLE, &direction, -1, 5);
+    add('c', &with_d(EXAMPLE, 0), &direction, -1, 512);
     add('d', &with_d(&short, 2), &direction, -1, 512);
     add('e', &with_d(&short, 1), &direction, -1, 512);
     add('f', &with_d(&short, 1), &direction, 0, 512);
     add('g', &with_d(&short, 1), &direction, 5, 512);
-    add('h', BOOK, &direction, 0, 512);
-    add('i', BOOK, &[11, 13], -1, 512);
-    add('j', BOOK, &[], -1, 512);
-    add('k', BOOK, &direction, -2, 512);
-    let book = read_book(BOOK.as_bytes(), usize::MAX).unwrap();
+    add('h', EXAMPLE, &direction, 0, 512);
+    add('i', EXAMPLE, &[11, 13], -1, 512);
+    add('j', EXAMPLE, &[], -1, 512);
+    add('k', EXAMPLE, &direction, -2, 512);
+    let book = read_book(EXAMPLE.as_bytes(), usize::MAX).unwrap();
     let scored = scoring_reply(score(&book, &direction, &[]));
     out.push_str(&format!("l {}", String::from_utf8(scored).unwrap()));
     out

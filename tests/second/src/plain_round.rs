@@ -12,22 +12,37 @@ pub fn decode_round(
     width: i64,
     before: &Lists,
 ) -> (Result<(), u8>, Lists) {
-    let refused = verdict(book, directions.len(), ends, before);
-    if refused != 0 {
-        return (Err(refused), before.clone());
+    match verdict(book, directions.len(), ends, before) {
+        0 => {
+            let alone = alone(book, directions, ends, width, before.store.len());
+            (Ok(()), written(&alone, before))
+        }
+        refused => (Err(refused), before.clone()),
     }
-    let store = before.store.len();
-    let mut alone: Vec<Result<Answer, u8>> = Vec::new();
-    for k in 0..ends.len() {
-        let words: Vec<u16> = (0..directions.len())
-            .filter(|&at| direction_of(at, ends) == k)
-            .map(|at| directions[at])
-            .collect();
-        alone.push(decode(book, &words, width, 32, 256, store));
-    }
+}
+
+/// What each direction is answered alone.
+pub fn alone(
+    book: &[i32],
+    directions: &[u16],
+    ends: &[usize],
+    width: i64,
+    store: usize,
+) -> Vec<Result<Answer, u8>> {
+    let words_of = |k: usize| -> Vec<u16> {
+        let places = (0..directions.len()).filter(|&at| direction_of(at, ends) == k);
+        places.map(|at| directions[at]).collect()
+    };
+    (0..ends.len())
+        .map(|k| decode(book, &words_of(k), width, 32, 256, store))
+        .collect()
+}
+
+/// The lists after directions with those answers.
+pub fn written(alone: &[Result<Answer, u8>], before: &Lists) -> Lists {
     let searched = |reply: &Result<Answer, u8>| !matches!(reply, Err(9..=12));
     let cleared = alone.iter().any(searched);
-    let after = Lists {
+    Lists {
         steps: told(&before.steps, |at| {
             step_number(alone.get(at / 96)?, at % 96)
         }),
@@ -39,12 +54,11 @@ pub fn decode_round(
         answers: told(&before.answers, |at| {
             Some(answer_number(alone.get(at / 9)?, at % 9))
         }),
-    };
-    (Ok(()), after)
+    }
 }
 
 /// The refusal of the whole round; 0 for none.
-fn verdict(book: &[i32], words: usize, ends: &[usize], lists: &Lists) -> u8 {
+pub fn verdict(book: &[i32], words: usize, ends: &[usize], lists: &Lists) -> u8 {
     let refused = plain::loaded_verdict(book);
     if refused != 0 {
         return refused;
@@ -74,7 +88,7 @@ fn direction_of(at: usize, ends: &[usize]) -> usize {
 }
 
 /// A list in which each place holds what is told of it, or what it held before.
-fn told<T: Copy>(before: &[T], of: impl Fn(usize) -> Option<T>) -> Vec<T> {
+pub fn told<T: Copy>(before: &[T], of: impl Fn(usize) -> Option<T>) -> Vec<T> {
     let places = before.iter().enumerate();
     places.map(|(at, &old)| of(at).unwrap_or(old)).collect()
 }

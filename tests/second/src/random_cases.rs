@@ -2,17 +2,16 @@
 
 use crate::cases::{self, BOOK, DIRECTION, LINE, READ, RENDERED, STEPS, STORE, TEXT, WORDS};
 use crate::cases::{ANSWERS, ENDS, ROUND, ROUND_RECORDS, ROUND_STEPS, ROUND_WORDS};
+use crate::cases::{ROUND_PRINTED, SHEET_BYTES};
 use crate::edits::{Edit, EditCase};
 use crate::gen::{self, DecodeCase, Rng, Shape};
 use crate::imports::ImportCase;
 use crate::round_cases::RoundCase;
 use crate::rounds::{self, Calls, Reached, Tally};
+use crate::sheet_cases::{self, Flaw, SheetCase};
 use crate::ways::Ways;
 use crate::Step;
 use std::fmt::Display;
-
-/// Are rounds with step records, call 13, asked too?
-pub const WITH_ROUND_RECORDS: bool = true;
 
 /// The lines made so far, and how many inputs the program has no room for: those are left out.
 #[derive(Default)]
@@ -49,8 +48,22 @@ impl Lines {
         self.add(&sizes, numbers);
     }
 
-    /// A round, with places for so many steps: numbers (call 12) or records (call 13).
-    fn add_round(&mut self, rng: &mut Rng, case: &RoundCase, call: u8, steps: (usize, usize)) {
+    fn round_program(&mut self, rng: &mut Rng, book: &[u8], input: &[u8]) {
+        let sizes = [
+            (book.len(), ROUND_PRINTED.0),
+            (input.len(), ROUND_PRINTED.1),
+        ];
+        let numbers = format!("16 {} {} {}", list(book), list(input), fill(rng));
+        self.add(&sizes, numbers);
+    }
+
+    /// A round or, with so many bytes, its sheet: by the call with steps as numbers, or by the next one, with records.
+    fn add_round(&mut self, rng: &mut Rng, case: &RoundCase, call: u8, sheet: Option<usize>) {
+        let steps = match call {
+            12 | 14 => (case.steps_len, ROUND_STEPS),
+            // The program has records for 34 directions; more are answered 12.
+            _ => ((case.steps_len / 3).min(ROUND_RECORDS), ROUND_RECORDS),
+        };
         let sizes = [
             (case.book.len(), BOOK),
             (case.directions.len(), ROUND),
@@ -59,10 +72,12 @@ impl Lines {
             (case.words_len, ROUND_WORDS),
             (case.store_len, STORE),
             (case.answers_len, ANSWERS),
+            (sheet.unwrap_or(0), SHEET_BYTES),
         ];
         let (book, directions, ends) = (list(&case.book), list(&case.directions), list(&case.ends));
         let (words, store, answers) = (case.words_len, case.store_len, case.answers_len);
-        let lent = format!("{} {words} {store} {answers}", steps.0);
+        let sheet = sheet.map_or(String::new(), |bytes| format!(" {bytes}"));
+        let lent = format!("{} {words} {store} {answers}{sheet}", steps.0);
         let asked = format!("{call} {book} {directions} {ends} {}", case.width);
         self.add(&sizes, format!("{asked} {lent} {}", fill(rng)));
     }
@@ -141,12 +156,14 @@ impl Calls for Lines {
         self.add(&sizes, format!("11 {texts} {lent} {}", fill(rng)));
     }
     fn round(&mut self, rng: &mut Rng, case: &RoundCase) {
-        self.add_round(rng, case, 12, (case.steps_len, ROUND_STEPS));
-        if WITH_ROUND_RECORDS {
-            // The program has records for 34 directions; more are answered 12.
-            let records = (case.steps_len / 3).min(ROUND_RECORDS);
-            self.add_round(rng, case, 13, (records, ROUND_RECORDS));
-        }
+        self.add_round(rng, case, 12, None);
+        self.add_round(rng, case, 13, None);
+    }
+    fn sheet(&mut self, rng: &mut Rng, case: &SheetCase) {
+        // The program has no room for a thousand bytes more than are needed.
+        let bytes = Some(case.sheet_len.min(SHEET_BYTES));
+        self.add_round(rng, &case.round, 14, bytes);
+        self.add_round(rng, &case.round, 15, bytes);
     }
     /// A reading of the text, held to the edited book; what else is asked of that book has lines of its own.
     fn same_book(&mut self, rng: &mut Rng, text: &[u8], case: &DecodeCase, _: &[Step]) {
@@ -156,7 +173,7 @@ impl Calls for Lines {
     }
 }
 
-/// Directions as numbers, and a rendering.
+/// Directions as numbers, a rendering, and the program `round`.
 fn other_calls(rng: &mut Rng, shape: &Shape, lines: &mut Lines) {
     for code in [0, 9, 10] {
         lines.check_direction(&gen::direction_saying(rng, shape, code));
@@ -165,6 +182,22 @@ fn other_calls(rng: &mut Rng, shape: &Shape, lines: &mut Lines) {
     let book = gen::text_saying(rng, shape, book);
     let direction = gen::direction_text_saying(rng, shape, direction);
     lines.render(rng, &book, &direction);
+    round_programs(rng, shape, lines);
+}
+
+/// The program `round`: texts that are good, and some of each kind that it refuses.
+fn round_programs(rng: &mut Rng, shape: &Shape, lines: &mut Lines) {
+    let mut flaws = vec![Flaw::None, rng.pick(&[Flaw::Bytes, Flaw::Lines])];
+    for _ in 0..3 {
+        flaws.push(Flaw::Book(rng.pick(&[1, 2, 3, 4, 6, 20])));
+    }
+    for _ in 0..2 {
+        flaws.push(Flaw::Line(rng.pick(&[8, 9, 10])));
+    }
+    for flaw in flaws {
+        let (book, input) = sheet_cases::texts(rng, shape, flaw);
+        lines.round_program(rng, &book, &input);
+    }
 }
 
 /// Scoring and decoding with a book that question `code` refuses.
@@ -227,16 +260,25 @@ const WITH_STEPS: [Reached; 2] = [
     ),
 ];
 
-/// What was met too seldom, in a sentence: an answer of the calls with step records, of the edits, of the import, of a round or inside one,
-/// fewer than `least` times, or a way in which a triple is scored, or a mixture of suppliers.
+/// Those of a round, and of its sheet, with step records.
+const ROUNDS_WITH_STEPS: [Reached; 2] = [
+    ("decode_round with records", rounds::TOGETHER[0].1),
+    ("round_sheet with records", rounds::TOGETHER[1].1),
+];
+
+/// Those of the program `round`.
+const PROGRAM: [Reached; 1] = [("round program", &[0, 1, 2, 3, 4, 6, 7, 8, 9, 10, 20, 26])];
+
+/// What was met too seldom, in a sentence: an answer of the calls with step records, of the edits, of the import, of a round or its sheet or
+/// inside one, or of the program `round`, fewer than `least` times, or a way in which a triple is scored, or a mixture of suppliers.
 fn seldom(tally: &Tally, inside: &Tally, ways: &Ways, least: u64) -> Result<(), String> {
-    let with_records = [("decode_round with records", rounds::TOGETHER[0].1)];
     for reached in [
         &WITH_STEPS[..],
         &rounds::EDITS,
         &rounds::IMPORTS,
         &rounds::TOGETHER,
-        &with_records[..WITH_ROUND_RECORDS as usize],
+        &ROUNDS_WITH_STEPS,
+        &PROGRAM,
     ] {
         tally.seldom(reached, least).map_or(Ok(()), Err)?;
     }
@@ -270,6 +312,9 @@ pub fn hold(lines: &str, printed: &str, least: u64) -> Result<(), String> {
         ways.add(said.ways);
         for code in said.inside {
             inside.count(rounds::DIRECTION_OF_A_ROUND, code);
+        }
+        for code in said.on_sheets {
+            inside.count(rounds::LINE_OF_A_SHEET, code);
         }
     }
     tally.print();

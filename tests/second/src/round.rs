@@ -19,15 +19,19 @@ pub struct Lists {
     pub answers: Vec<i64>,
 }
 
-/// A loaded book's questions, 26, 12. Then each direction's answer, steps and words stand in its places, and the store is as the
-/// directions leave it, one after the other. A refused round changes nothing.
-pub fn decode_round(
+/// A round that its questions let pass: the book, and the directions.
+pub struct Opened<'a> {
+    book: Book,
+    parts: Vec<&'a [u16]>,
+}
+
+/// A loaded book's questions, 26, 12.
+pub fn opened<'a>(
     book: &[i32],
-    directions: &[u16],
+    directions: &'a [u16],
     ends: &[usize],
-    width: i64,
-    lists: &mut Lists,
-) -> Result<(), u8> {
+    lists: &Lists,
+) -> Result<Opened<'a>, u8> {
     let book = check_book(book)?;
     let parts = parts(directions, ends).ok_or(26)?;
     let count = parts.len();
@@ -37,23 +41,44 @@ pub fn decode_round(
     {
         return Err(12);
     }
-    let steps = lists.steps.chunks_exact_mut(STEP_NUMBERS);
-    let words = lists.words.chunks_exact_mut(WORD_PLACES);
-    let answers = lists.answers.chunks_exact_mut(ANSWER);
-    for (((part, steps), words), answer) in parts.iter().zip(steps).zip(words).zip(answers) {
-        let reply = direction_alone(&book, part, width, &mut lists.store);
-        answer.fill(0);
-        match reply {
-            Err(code) => answer[0] = code as i64,
-            Ok(found) => {
-                answer[1..].copy_from_slice(&report(&found));
-                for (place, step) in steps.chunks_exact_mut(3).zip(&found.steps) {
-                    place.copy_from_slice(&[step.0, step.1, step.2]);
+    Ok(Opened { book, parts })
+}
+
+impl Opened<'_> {
+    /// Each direction's answer, steps and words stand in its places, and the store is as the directions leave it, one after the other.
+    /// The answers.
+    pub fn decode<'a>(&self, width: i64, lists: &'a mut Lists) -> &'a [i64] {
+        let steps = lists.steps.chunks_exact_mut(STEP_NUMBERS);
+        let words = lists.words.chunks_exact_mut(WORD_PLACES);
+        let answers = lists.answers.chunks_exact_mut(ANSWER);
+        let places = steps.zip(words).zip(answers);
+        for (part, ((steps, words), answer)) in self.parts.iter().zip(places) {
+            let reply = direction_alone(&self.book, part, width, &mut lists.store);
+            answer.fill(0);
+            match reply {
+                Err(code) => answer[0] = code as i64,
+                Ok(found) => {
+                    answer[1..].copy_from_slice(&report(&found));
+                    for (place, step) in steps.chunks_exact_mut(3).zip(&found.steps) {
+                        place.copy_from_slice(&[step.0, step.1, step.2]);
+                    }
+                    words[..found.words.len()].copy_from_slice(&found.words);
                 }
-                words[..found.words.len()].copy_from_slice(&found.words);
             }
         }
+        &lists.answers[..ANSWER * self.parts.len()]
     }
+}
+
+/// The questions, and then the decodes. A refused round changes nothing.
+pub fn decode_round(
+    book: &[i32],
+    directions: &[u16],
+    ends: &[usize],
+    width: i64,
+    lists: &mut Lists,
+) -> Result<(), u8> {
+    opened(book, directions, ends, lists)?.decode(width, lists);
     Ok(())
 }
 

@@ -76,9 +76,9 @@ impl RoundCase {
             .collect()
     }
 
-    /// What each direction was answered; nothing for a round that was refused.
-    pub fn inside(&self, reply: Result<(), u8>, after: &Lists) -> Vec<u8> {
-        let count = if reply.is_ok() { self.ends.len() } else { 0 };
+    /// What each direction was answered; nothing for a round that was not accepted.
+    pub fn inside(&self, accepted: bool, after: &Lists) -> Vec<u8> {
+        let count = if accepted { self.ends.len() } else { 0 };
         let firsts = after.answers.iter().step_by(ANSWER);
         firsts.take(count).map(|&code| code as u8).collect()
     }
@@ -140,6 +140,22 @@ pub fn with_flaw(rng: &mut Rng, shape: &Shape, flaw: Flaw) -> RoundCase {
     case
 }
 
+/// A round whose scores add up to more than 2 to the 31, on that side of 0: each word of its long directions has an entry of eight words,
+/// and each of these scores nearly as much as a score may.
+pub fn heavy(rng: &mut Rng, sign: i32) -> RoundCase {
+    let [u, g] = [0; 2].map(|_| sign * (1_000_000 - rng.below(1_000) as i32));
+    let mut book = vec![1, 0, 0, u, 1, 0, 2, 1, 8, 11];
+    book.extend([7; 8]);
+    book.push(g);
+    let count = 8 + rng.below(13);
+    let mut directions: Vec<Vec<u16>> = (0..count).map(|_| vec![11; 32 - rng.below(2)]).collect();
+    if rng.chance(1, 3) {
+        let refused = rng.pick(&[0, 12]);
+        directions.insert(rng.below(count), vec![refused]);
+    }
+    RoundCase::of(&book, &directions, -1, 8 * 40)
+}
+
 /// 1 to 64 directions: ones that fit the book, ones that do not, ones too long or with a 0, and ones that were there before.
 fn directions(rng: &mut Rng, shape: &Shape, book: Option<&Book>) -> Vec<Vec<u16>> {
     let most = if shape.max_direction > 6 { 6 } else { 64 };
@@ -157,6 +173,8 @@ fn directions(rng: &mut Rng, shape: &Shape, book: Option<&Book>) -> Vec<Vec<u16>
             (1, _) => gen::direction_saying(rng, shape, 10),
             (2 | 3, _) if !all.is_empty() => all[rng.below(all.len())].clone(),
             (4..=9, Some(book)) => gen::direction_from(rng, shape, book),
+            // A word of no entry.
+            (10, _) => [gen::direction(rng, shape), vec![7_777]].concat(),
             _ => gen::direction(rng, shape),
         };
         all.push(one);

@@ -5,6 +5,8 @@ use crate::gen::{self, DecodeCase, Rng, Shape};
 use crate::imports::{self, Flaw, ImportCase};
 use crate::round::Lists;
 use crate::round_cases::{self, RoundCase};
+use crate::sheet::SHEET;
+use crate::sheet_cases::SheetCase;
 use crate::Step;
 use std::collections::BTreeMap;
 
@@ -18,6 +20,7 @@ pub trait Calls {
     fn edit(&mut self, rng: &mut Rng, case: &EditCase);
     fn import(&mut self, rng: &mut Rng, case: &ImportCase);
     fn round(&mut self, rng: &mut Rng, case: &RoundCase);
+    fn sheet(&mut self, rng: &mut Rng, case: &SheetCase);
     /// "A decode after any edits equals a decode of the edited book read afresh": the case has the edited book, and the text is what that
     /// is to be. A scoring of the steps and the target words are asked too.
     fn same_book(&mut self, rng: &mut Rng, text: &[u8], case: &DecodeCase, steps: &[Step]);
@@ -87,10 +90,18 @@ pub const EDITS: [Reached; 2] = [
 /// Those of the import.
 pub const IMPORTS: [Reached; 1] = [("import_arpa", &[0, 2, 3, 4, 5, 6, 7, 20, 21, 23, 24, 25])];
 
-/// Those of a round's directions together, and those of the directions in it.
-pub const TOGETHER: [Reached; 1] = [("decode_round", &[0, 2, 3, 4, 5, 6, 12, 20, 21, 26])];
-pub const INSIDE: [Reached; 1] = [(DIRECTION_OF_A_ROUND, &[0, 9, 10, 11, 13, 14, 15])];
+/// Those of a round's directions together and of a round's sheet, and those of the directions in the one and of the lines of the other.
+pub const TOGETHER: [Reached; 2] = [
+    ("decode_round", &[0, 2, 3, 4, 5, 6, 12, 20, 21, 26]),
+    ("round_sheet", &[0, 2, 3, 4, 5, 6, 7, 12, 20, 21, 26]),
+];
+const OF_A_DIRECTION: &[u8] = &[0, 9, 10, 11, 13, 14, 15];
+pub const INSIDE: [Reached; 2] = [
+    (DIRECTION_OF_A_ROUND, OF_A_DIRECTION),
+    (LINE_OF_A_SHEET, OF_A_DIRECTION),
+];
 pub const DIRECTION_OF_A_ROUND: &str = "a direction of a round";
+pub const LINE_OF_A_SHEET: &str = "a line of a sheet";
 
 /// The shape of round k's books and directions.
 pub fn shape(rng: &mut Rng, k: usize) -> Shape {
@@ -379,25 +390,37 @@ fn as_the_file(
     }
 }
 
+/// A round, and its sheet.
+fn with_sheet(rng: &mut Rng, case: &RoundCase, calls: &mut dyn Calls) {
+    calls.round(rng, case);
+    let sheet = SheetCase::of(rng, case);
+    calls.sheet(rng, &sheet);
+}
+
 /// Directions together: good rounds, the same with the store just enough for each of them and just not, rounds that 26 and 12 refuse, and
-/// rounds with books that are broken.
+/// rounds with books that are broken. Each is asked for its sheet too; and sheets with sums of more than 32 bits.
 pub fn directions_together(rng: &mut Rng, shape: &Shape, calls: &mut dyn Calls) {
     use round_cases::Flaw::*;
     for flaw in [None, None, None, Ends, Ends, Short] {
         let mut case = round_cases::with_flaw(rng, shape, flaw);
-        calls.round(rng, &case);
+        with_sheet(rng, &case, calls);
         if flaw == None {
             if let Some(states) = most_states(&case) {
                 for store_len in [8 * states, 8 * states - 1] {
                     case.store_len = store_len;
-                    calls.round(rng, &case);
+                    with_sheet(rng, &case, calls);
                 }
             }
         }
     }
     for code in [2, 3, 4, 6, 20, 21] {
         let case = round_cases::with_flaw(rng, shape, Book(code));
-        calls.round(rng, &case);
+        with_sheet(rng, &case, calls);
+    }
+    for sign in [-1, 1] {
+        let round = round_cases::heavy(rng, sign);
+        let sheet_len = SHEET;
+        calls.sheet(rng, &SheetCase { round, sheet_len });
     }
 }
 
@@ -405,7 +428,7 @@ pub fn directions_together(rng: &mut Rng, shape: &Shape, calls: &mut dyn Calls) 
 pub fn full_books_together(rng: &mut Rng, shape: &Shape, calls: &mut dyn Calls) {
     for _ in 0..2 {
         let case = round_cases::with_flaw(rng, shape, round_cases::Flaw::Book(5));
-        calls.round(rng, &case);
+        with_sheet(rng, &case, calls);
     }
 }
 

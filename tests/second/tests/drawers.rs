@@ -2,26 +2,17 @@
 
 use second::*;
 
-const BOOK: &str = "B,2,-10,-500
-P,1,1,11,101,-20
-P,1,1,12,102,-30
-P,2,2,11,12,102,101,-70
-T,0,0,101,-40
-T,0,101,102,-60
-T,0,0,102,-15
-T,0,102,101,-25
-";
 const FULL: usize = 8 * 512;
 
 fn book(d: i32) -> Vec<i32> {
-    let mut list = read_book(BOOK.as_bytes(), 1000).unwrap();
+    let mut list = read_book(EXAMPLE.as_bytes(), 1000).unwrap();
     list[1] = d;
     list
 }
 
 /// Without the fourth line.
 fn short(d: i32) -> Vec<i32> {
-    let text: String = BOOK
+    let text: String = EXAMPLE
         .lines()
         .enumerate()
         .filter(|(k, _)| *k != 3)
@@ -39,13 +30,13 @@ fn run(book: &[i32], width: i64, store: usize) -> Result<Answer, u8> {
 #[test]
 fn printed_example() {
     assert_eq!(
-        render(BOOK.as_bytes(), b"11,12\n"),
+        render(EXAMPLE.as_bytes(), b"11,12\n"),
         b"A,-110,1,2,6,2,0,0,0\nS,1,2,3\nW,102,101\n"
     );
     assert_eq!(render(b"", b"11,12\n"), b"R,1\n");
     assert_eq!(render(b"", b""), b"R,1\n");
-    assert_eq!(render(BOOK.as_bytes(), b""), b"R,8\n");
-    assert_eq!(render(BOOK.as_bytes(), b"11,13\n"), b"R,14\n");
+    assert_eq!(render(EXAMPLE.as_bytes(), b""), b"R,8\n");
+    assert_eq!(render(EXAMPLE.as_bytes(), b"11,13\n"), b"R,14\n");
     assert_eq!(render(b"", &[b'1'; 513]), b"R,7\n");
     assert_eq!(render(b"", &[b'1'; 512]), b"R,1\n");
     assert_eq!(render(&[b'x'; 8193], b"11\n"), b"R,7\n");

@@ -1,5 +1,8 @@
 //! Ticket 7 of 02: a round's directions together.
 
+mod helpers;
+
+use helpers::{case, each_answer, garbage, refused_books, short};
 use second::cases::{line_said, round_of};
 use second::gen::{Rng, Shape};
 use second::random_cases::hold;
@@ -7,42 +10,6 @@ use second::round::{report, Lists};
 use second::round_cases::{self, Flaw, RoundCase};
 use second::rounds::{self, Tally};
 use second::*;
-
-/// The drawers' book, and an entry of eight target words for word 21.
-const BOOK: &str = "B,2,-10,-500
-P,1,1,11,101,-20
-P,1,1,12,102,-30
-P,2,2,11,12,102,101,-70
-T,0,0,101,-40
-T,0,101,102,-60
-T,0,0,102,-15
-T,0,102,101,-25
-P,1,8,21,1,2,3,4,5,6,7,8,-1
-";
-
-/// The drawers' book without its fourth line, d = 1: with width 0 its last set is empty.
-const SHORT: &str = "B,1,-10,-500
-P,1,1,11,101,-20
-P,1,1,12,102,-30
-T,0,0,101,-40
-T,0,101,102,-60
-T,0,0,102,-15
-T,0,102,101,-25
-";
-
-fn loaded(text: &str) -> Vec<i32> {
-    read_book(text.as_bytes(), usize::MAX).expect("a good book")
-}
-
-fn case(directions: &[&[u16]]) -> RoundCase {
-    let directions: Vec<Vec<u16>> = directions.iter().map(|one| one.to_vec()).collect();
-    RoundCase::of(&loaded(BOOK), &directions, -1, 8 * 512)
-}
-
-/// Numbers that differ from place to place, and none of which a decode writes there.
-fn garbage(k: usize) -> u64 {
-    30_000 + (k % 30_000) as u64
-}
 
 /// The round by copying: each direction's places are copied out, it is decoded alone in them, and they are copied back; the store goes from
 /// one to the next.
@@ -89,7 +56,7 @@ fn asked(case: &RoundCase) -> (Result<(), u8>, Lists) {
 /// What the directions are answered, or the refusal of the round.
 fn codes(case: &RoundCase) -> Result<Vec<u8>, u8> {
     let (reply, after) = asked(case);
-    reply.map(|()| case.inside(reply, &after))
+    reply.map(|()| case.inside(reply.is_ok(), &after))
 }
 
 /// "Each answer, with its steps and words": four directions, by hand.
@@ -220,22 +187,15 @@ fn words_behind_the_last_end() {
 /// places as before.
 #[test]
 fn each_answer_in_one_round() {
-    let long = [11; 33];
-    let eight: Vec<u16> = [11, 12].repeat(4);
-    let mut directions: Vec<&[u16]> = vec![&[11, 12], &long, &[11, 0], &eight, &[11, 13], &[12]];
+    let mut directions = each_answer();
     for turns in 0..6 {
         directions.rotate_left(turns);
-        // Six states: the four pairs of words have more.
-        let mut round = case(&directions);
+        let (words, meant): (Vec<&[u16]>, Vec<u8>) = directions
+            .iter()
+            .map(|(one, code)| (&one[..], code))
+            .unzip();
+        let mut round = case(&words);
         round.store_len = 48;
-        let of = |one: &&[u16]| match *one {
-            [11, 0] => 10,
-            [11, 13] => 14,
-            one if one.len() == 8 => 13,
-            one if one.len() == 33 => 9,
-            _ => 0,
-        };
-        let meant: Vec<u8> = directions.iter().map(of).collect();
         assert_eq!(codes(&round), Ok(meant.clone()));
         let before = round.lists(garbage);
         let (_, after) = asked(&round);
@@ -266,7 +226,7 @@ fn each_answer_in_one_round() {
 #[test]
 fn a_width() {
     let mut round = case(&[&[11, 12], &[12], &[11], &[12, 11], &[11, 12]]);
-    round.book = loaded(SHORT);
+    round.book = short();
     for (width, meant) in [
         (-1, [0, 0, 0, 0, 0]),
         (0, [15, 0, 0, 0, 15]),
@@ -383,30 +343,7 @@ fn lists_long_enough() {
 /// "26, after the book checks and before that 12"; the directions' own questions come last.
 #[test]
 fn the_order_of_the_questions() {
-    let repeated = |line: &str| loaded(BOOK).iter().copied().chain(numbers(line)).collect();
-    let change = |at: usize, to: i32| {
-        let mut book = loaded(BOOK);
-        book[at] = to;
-        book
-    };
-    let mut triples: Vec<i32> = repeated("3 0 0 101 -40");
-    triples[5] += 1;
-    let mut many = loaded(BOOK);
-    for _ in 0..4_093 {
-        many.extend([2, 1, 1, 11, 101, 0]);
-    }
-    many[4] += 4_093;
-    for (book, code) in [
-        (Vec::new(), 3),
-        (change(0, 9), 2),
-        (repeated("1 0 0 0 0 0"), 3),
-        (change(1, 33), 4),
-        (many, 5),
-        (change(4, 3), 21),
-        (triples, 6),
-        (repeated("4 7 0 0 4 7 1 1"), 20),
-        (loaded(BOOK), 0),
-    ] {
+    for (book, code) in refused_books() {
         // Each of 26 and 12, and of what the directions are refused for, both wrong and right.
         for wrong in 0..8 {
             let mut round = case(&[&[11, 12], &[12]]);
@@ -430,10 +367,6 @@ fn the_order_of_the_questions() {
             assert_eq!(codes(&round), meant, "{code} {wrong}");
         }
     }
-}
-
-fn numbers(row: &str) -> Vec<i32> {
-    row.split(' ').map(|z| z.parse().unwrap()).collect()
 }
 
 /// "with the same store": each direction has all of it, and it is zero after the first that is searched.
@@ -563,14 +496,14 @@ fn random_rounds() {
                 Flaw::Ends => {}
             }
             tally.count("decode_round", reply.err().unwrap_or(0));
-            for code in round.inside(reply, &after) {
+            for code in round.inside(reply.is_ok(), &after) {
                 tally.count(rounds::DIRECTION_OF_A_ROUND, code);
             }
         }
     }
     let refused = ("decode_round", &[0, 2, 3, 4, 6, 12, 20, 21, 26][..]);
     assert_eq!(tally.seldom(&[refused], 100), None);
-    assert_eq!(tally.seldom(&rounds::INSIDE, 200), None);
+    assert_eq!(tally.seldom(&rounds::INSIDE[..1], 200), None);
 }
 
 /// What calls 12 and 13 are to print.

@@ -43,9 +43,6 @@ fn table(common: &str, direction: &[u16], rows: &[(&str, Supplied)]) {
     }
 }
 
-const EXAMPLE: &str = "B,2,-10,-500\nP,1,1,11,101,-20\nP,1,1,12,102,-30\nP,2,2,11,12,102,101,-70\n\
-T,0,0,101,-40\nT,0,101,102,-60\nT,0,0,102,-15\nT,0,102,101,-25\n";
-
 #[test]
 fn the_example() {
     let list = read_book(EXAMPLE.as_bytes(), 1_000).unwrap();

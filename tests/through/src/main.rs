@@ -1,10 +1,10 @@
 //! Random inputs, good and broken, to every call of the library, each answer held to the second decoder's. Every lent list is
 //! full of garbage before a call and is compared whole afterwards. Books are edited up to 20 times in one list, and ARPA texts are imported
 //! to them; what is then asked of them is held to their texts, read afresh by the library. A round's directions together are held to the
-//! library's own decodes of them one by one, too. `through SEED INPUTS [LEAST]`: LEAST is how often each refusal, and each answer of the two
-//! edits, of the import, of a round and of the directions in one, must have been met at the end; where it is not 0, each way in which a
-//! triple is scored, and each of the four suppliers alone and all of them together in an answer, must have been met too (`second::ways`). It
-//! stops at the first difference.
+//! library's own decodes of them one by one, too, and the lists that a round's sheet leaves to those of its round. `through SEED INPUTS
+//! [LEAST]`: LEAST is how often each refusal, and each answer of the two edits, of the import, of a round, of the directions in one, of a
+//! sheet and of its lines, must have been met at the end; where it is not 0, each way in which a triple is scored, and each of the four
+//! suppliers alone and all of them together in an answer, must have been met too (`second::ways`). It stops at the first difference.
 
 #[path = "../../../include/phrase.rs"]
 mod library;
@@ -15,6 +15,7 @@ use second::gen::{DecodeCase, Rng};
 use second::imports::ImportCase;
 use second::round_cases::RoundCase;
 use second::rounds::{self, Calls, Tally};
+use second::sheet_cases::SheetCase;
 use second::ways::Ways;
 use second::{Step, Supplied};
 
@@ -126,7 +127,7 @@ fn check_answer(case: &DecodeCase, answer: &second::Answer, before: &Lent, after
 }
 
 /// The library, how often each of its calls gave each answer, how the target words of its successes were scored, and how often the
-/// directions of rounds were given each answer.
+/// directions of rounds and the lines of sheets were given each answer.
 #[derive(Default)]
 struct Library(Tally, Ways, Tally);
 
@@ -248,6 +249,13 @@ impl Calls for Library {
         self.0.count("decode_round", code);
         for code in inside {
             self.2.count(rounds::DIRECTION_OF_A_ROUND, code);
+        }
+    }
+    fn sheet(&mut self, rng: &mut Rng, case: &SheetCase) {
+        let (code, inside) = together::check_sheet(rng, case);
+        self.0.count("round_sheet", code);
+        for code in inside {
+            self.2.count(rounds::LINE_OF_A_SHEET, code);
         }
     }
     fn same_book(&mut self, rng: &mut Rng, text: &[u8], case: &DecodeCase, steps: &[Step]) {

@@ -1,10 +1,34 @@
 //! A round's directions together, through `phrase_decode_round`: held to the library's own decodes of the directions one by one, and to the
-//! second decoder. Behind the part of each list that is lent there are places more, which no call may change.
+//! second decoder. A round's sheet, through `phrase_round_sheet`: its lists held to the library's own round, and all of it to the second
+//! decoder. Behind the part of each list that is lent there are places more, which no call may change.
 
 use crate::{garbage16, garbage64, library};
 use second::gen::Rng;
 use second::round::Lists;
 use second::round_cases::RoundCase;
+use second::sheet_cases::{SheetCase, Sheeted};
+
+extern "C" {
+    fn phrase_round_sheet(
+        book: *const i32,
+        book_len: usize,
+        directions: *const u16,
+        directions_len: usize,
+        ends: *const usize,
+        ends_len: usize,
+        width: i64,
+        steps: *mut u16,
+        steps_len: usize,
+        words: *mut u16,
+        words_len: usize,
+        store: *mut i64,
+        store_len: usize,
+        answers: *mut i64,
+        answers_len: usize,
+        sheet: *mut u8,
+        sheet_len: usize,
+    ) -> i64;
+}
 
 /// How many places each list has behind the part that is lent.
 const BEHIND: usize = 100;
@@ -17,6 +41,10 @@ fn garbage(rng: &mut Rng, case: &RoundCase) -> Lists {
         store: garbage64(rng, case.store_len + BEHIND),
         answers: garbage64(rng, case.answers_len + BEHIND),
     }
+}
+
+fn garbage8(rng: &mut Rng, n: usize) -> Vec<u8> {
+    (0..n).map(|_| rng.draw() as u8).collect()
 }
 
 /// What the library replies to the round, and the lists afterwards, whole.
@@ -60,23 +88,73 @@ fn with_behind<T: Copy>(part: &[T], whole: &[T]) -> Vec<T> {
     [part, &whole[part.len()..]].concat()
 }
 
+/// The part of each list that is lent.
+fn lent(case: &RoundCase, whole: &Lists) -> Lists {
+    Lists {
+        steps: whole.steps[..case.steps_len].to_vec(),
+        words: whole.words[..case.words_len].to_vec(),
+        store: whole.store[..case.store_len].to_vec(),
+        answers: whole.answers[..case.answers_len].to_vec(),
+    }
+}
+
+/// The lists after the call that was lent their first parts.
+fn all_with_behind(part: &Lists, whole: &Lists) -> Lists {
+    Lists {
+        steps: with_behind(&part.steps, &whole.steps),
+        words: with_behind(&part.words, &whole.words),
+        store: with_behind(&part.store, &whole.store),
+        answers: with_behind(&part.answers, &whole.answers),
+    }
+}
+
 /// What the second decoder says, with the places behind as they were.
 fn by_second(case: &RoundCase, before: &Lists) -> (Result<(), u8>, Lists, Vec<u8>) {
-    let lent = Lists {
-        steps: before.steps[..case.steps_len].to_vec(),
-        words: before.words[..case.words_len].to_vec(),
-        store: before.store[..case.store_len].to_vec(),
-        answers: before.answers[..case.answers_len].to_vec(),
-    };
-    let (reply, after) = case.answer(&lent);
-    let inside = case.inside(reply, &after);
-    let whole = Lists {
-        steps: with_behind(&after.steps, &before.steps),
-        words: with_behind(&after.words, &before.words),
-        store: with_behind(&after.store, &before.store),
-        answers: with_behind(&after.answers, &before.answers),
+    let (reply, after) = case.answer(&lent(case, before));
+    let inside = case.inside(reply.is_ok(), &after);
+    (reply, all_with_behind(&after, before), inside)
+}
+
+/// The same of a sheet.
+fn sheet_by_second(case: &SheetCase, before: &Sheeted) -> (Result<usize, u8>, Sheeted, Vec<u8>) {
+    let (reply, after) = case.answer(&Sheeted {
+        lists: lent(&case.round, &before.lists),
+        sheet: before.sheet[..case.sheet_len].to_vec(),
+    });
+    let inside = case.round.inside(reply.is_ok(), &after.lists);
+    let whole = Sheeted {
+        lists: all_with_behind(&after.lists, &before.lists),
+        sheet: with_behind(&after.sheet, &before.sheet),
     };
     (reply, whole, inside)
+}
+
+/// What the library replies to a call for the sheet, and what it leaves, whole.
+fn sheeted(case: &SheetCase, before: &Sheeted) -> (i64, Sheeted) {
+    let mut after = before.clone();
+    let (round, lists) = (&case.round, &mut after.lists);
+    let reply = unsafe {
+        phrase_round_sheet(
+            round.book.as_ptr(),
+            round.book.len(),
+            round.directions.as_ptr(),
+            round.directions.len(),
+            round.ends.as_ptr(),
+            round.ends.len(),
+            round.width,
+            lists.steps.as_mut_ptr(),
+            round.steps_len,
+            lists.words.as_mut_ptr(),
+            round.words_len,
+            lists.store.as_mut_ptr(),
+            round.store_len,
+            lists.answers.as_mut_ptr(),
+            round.answers_len,
+            after.sheet.as_mut_ptr(),
+            case.sheet_len,
+        )
+    };
+    (reply, after)
 }
 
 /// The two are the same, number by number; the case and the first place that differs are said where they are not.
@@ -110,4 +188,27 @@ pub fn check(rng: &mut Rng, case: &RoundCase) -> (u8, Vec<u8>) {
         hold(case, "the lists before", &after, &before);
     }
     (code, inside)
+}
+
+/// One round's sheet; what it was answered, and what its lines say.
+pub fn check_sheet(rng: &mut Rng, case: &SheetCase) -> (u8, Vec<u8>) {
+    let before = Sheeted {
+        lists: garbage(rng, &case.round),
+        sheet: garbage8(rng, case.sheet_len + BEHIND),
+    };
+    let (reply, after) = sheeted(case, &before);
+    let (expected, meant, inside) = sheet_by_second(case, &before);
+    let number = expected.map_or_else(|code| -(code as i64), |length| length as i64);
+    assert_eq!(reply, number, "round_sheet {case:?}");
+    hold(&case.round, "the sheet's lists", &after.lists, &meant.lists);
+    let [given, text] = [&after.sheet, &meant.sheet].map(|s| String::from_utf8_lossy(s));
+    assert_eq!(after.sheet, meant.sheet, "{case:?}\n{given}\n{text}");
+    if expected.is_ok() {
+        let (_, round) = decoded(&case.round, &before.lists);
+        hold(&case.round, "the round's lists", &after.lists, &round);
+    } else {
+        hold(&case.round, "the lists before", &after.lists, &before.lists);
+        assert_eq!(after.sheet, before.sheet, "{case:?}");
+    }
+    (expected.err().unwrap_or(0), inside)
 }
