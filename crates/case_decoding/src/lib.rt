@@ -108,8 +108,9 @@ pub fn render(text: &[u8], at: usize) {
     let words = line::bytes(text, row.end, &mut direction);
     let m = words.count;
     let fill = line::as_u16(line::take_number(text, words.end));
-    let mut out = case_fill::out(fill);
+    let mut out = [0u8; 4096];
+    case_fill::bytes(&mut out, fill);
     let count = rendering::render(&book[..n], &direction[..m], &mut out);
     say::count(count);
-    case_show::out(&out, fill);
+    case_show::bytes(b" out", &out, fill);
 }

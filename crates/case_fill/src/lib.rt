@@ -89,15 +89,13 @@ pub fn byte(w: u16) -> u8 {
     (w % 256) as u8
 }
 
-// A list for the bytes that a rendering prints, filled in the same way.
-pub fn out(fill: u16) -> [u8; 4096] {
-    let mut list = [0; 4096];
+// Bytes, filled in the same way.
+pub fn bytes(list: &mut [u8], fill: u16) {
     let mut z = fill;
     let mut i: usize = 0;
-    while i < 4096 {
+    while i < list.len() {
         list[i] = byte(z);
         z = after(z);
         i += 1;
     }
-    list
 }

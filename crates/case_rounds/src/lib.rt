@@ -13,7 +13,7 @@ ghost use Prim.Native.Nat.{_≤_};
 ghost use lib.ListN.{length, take};
 
 // A list of ends: how many, and each.
-fn take_ends(text: &[u8], at: usize, list: &mut [usize]) -> Row
+pub fn take_ends(text: &[u8], at: usize, list: &mut [usize]) -> Row
     ensures { λ r. ⌜ (r .count ≤ length (now (list .exit))) × (r .count ≡ length (take (r .count) (now (list .exit)))) ⌝ }
 {
     let first = line::take_number(text, at);
@@ -33,31 +33,42 @@ fn take_ends(text: &[u8], at: usize, list: &mut [usize]) -> Row
     }
 }
 
-// What is asked of a round beside the book, the directions and their ends: the width, how many places of each list are lent, and the
-// number that the first place of each holds.
-struct Wish {
-    width: i64,
-    steps: Number,
-    words: Number,
-    store: Number,
-    answers: Number,
-    fill: u16,
+// What is asked of a round beside the book, the directions and their ends: the width, how many places of each list are lent, the bytes of
+// a sheet among them, and the number that the first place of each holds.
+pub struct Wish {
+    pub width: i64,
+    pub steps: Number,
+    pub words: Number,
+    pub store: Number,
+    pub answers: Number,
+    pub sheet: Number,
+    pub fill: u16,
 }
 
-// The wish at `at`.
-fn wish_of(text: &[u8], at: usize) -> Wish {
+// The number at `at` where there is one more, and else the one before it.
+fn one_more(text: &[u8], before: Number, more: bool) -> Number {
+    if more {
+        return line::take_number(text, before.end);
+    }
+    before
+}
+
+// The wish at `at`, with a sheet or without.
+pub fn wish_of(text: &[u8], at: usize, with_sheet: bool) -> Wish {
     let width = line::take_number(text, at);
     let steps = line::take_number(text, width.end);
     let words = line::take_number(text, steps.end);
     let store = line::take_number(text, words.end);
     let answers = line::take_number(text, store.end);
-    let fill = line::take_number(text, answers.end);
+    let sheet = one_more(text, answers, with_sheet);
+    let fill = line::take_number(text, sheet.end);
     Wish {
         width: line::as_i64(width),
         steps,
         words,
         store,
         answers,
+        sheet,
         fill: line::as_u16(fill),
     }
 }
@@ -221,7 +232,7 @@ pub fn decode_round(text: &[u8], at: usize, records: bool) {
         &book[..n],
         &directions[..m],
         &ends[..k],
-        wish_of(text, marks.end),
+        wish_of(text, marks.end, false),
         records,
     );
 }

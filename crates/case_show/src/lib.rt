@@ -222,9 +222,9 @@ fn wide_byte(b: u8) -> i64 {
     b as i64
 }
 
-// The list of bytes.
-pub fn out(list: &[u8; 4096], fill: u16) {
-    say::word(b" out");
+// A list of bytes, behind its name.
+pub fn bytes(name: &[u8], list: &[u8], fill: u16) {
+    say::word(name);
     let mut run = Run {
         kept: false,
         value: 0,
@@ -232,7 +232,7 @@ pub fn out(list: &[u8; 4096], fill: u16) {
     };
     let mut z = fill;
     let mut i: usize = 0;
-    while i < 4096 {
+    while i < list.len() {
         run = next(run, wide_byte(byte(z)), wide_byte(list[i]));
         z = after(z);
         i += 1;

@@ -14,8 +14,11 @@
 //     11 TEXT TEXT LIST used fill    import an ARPA text through a word list, in the same way
 //     12 BOOK DIRECTIONS ENDS width steps words store answers fill    decode a round, steps as numbers
 //     13 BOOK DIRECTIONS ENDS width steps words store answers fill    the same with records
+//     14 BOOK DIRECTIONS ENDS width steps words store answers sheet fill    a round's sheet, steps as numbers
+//     15 BOOK DIRECTIONS ENDS width steps words store answers sheet fill    the same with records
+//     16 TEXT TEXT fill          what the program `round` prints
 //
-// `places`, `steps`, `words`, `store` and `answers` say how many places are lent, `fill` what the first place of each list holds
+// `places`, `steps`, `words`, `store`, `answers` and `sheet` say how many places are lent, `fill` what the first place of each list holds
 // (`case_fill`). To add cases, add lines to `stdin`, and write `stdout` by the second decoder's program `cases`.
 use case_line::input;
 use case_line::line;
@@ -37,6 +40,9 @@ fn call(text: &[u8], at: usize, number: u64) {
         11 => case_importing::import_arpa(text, at),
         12 => case_rounds::decode_round(text, at, false),
         13 => case_rounds::decode_round(text, at, true),
+        14 => case_sheets::round_sheet(text, at, false),
+        15 => case_sheets::round_sheet(text, at, true),
+        16 => case_sheets::print_round(text, at),
         _ => say::word(b"no such call"),
     }
 }

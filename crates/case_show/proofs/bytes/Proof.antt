@@ -1,17 +1,15 @@
 -- Each place is shown in turn; the measure is how many are left.
+use lib.ListN.{length}
 use Prim.Native.Nat.{_-_}
 use borrow.Author.Needs.{needs}
-use Rattle.case_show.proofs.out.Statement.{statement}
-use Rattle.case_show.proofs.out.Tie as tie
+use Rattle.case_show.proofs.bytes.Statement.{statement}
+use Rattle.case_show.proofs.bytes.Tie as tie
 
 abbrev Inv-loop : tie.InvT-loop
-Inv-loop list fill run₀ z₀ i₀ run z i = Unit {0}
+Inv-loop name list fill run₀ z₀ i₀ run z i = Unit {0}
 
 abbrev μ-loop : tie.MeasureT-loop
-μ-loop list fill run₀ z₀ i₀ run z i = 4096 - i
-
-slice-aggregate-word : tie.Need-slice-aggregate-word Inv-loop μ-loop
-slice-aggregate-word c = search needs
+μ-loop name list fill run₀ z₀ i₀ run z i = length list - i
 
 word-requires : tie.Need-word-requires Inv-loop μ-loop
 word-requires c κs = search needs
@@ -25,8 +23,8 @@ byte-requires c κs = search needs
 wide-byte-requires : tie.Need-wide-byte-requires Inv-loop μ-loop
 wide-byte-requires c κs = search needs
 
-element-copy-out-wide-byte : tie.Need-element-copy-out-wide-byte Inv-loop μ-loop
-element-copy-out-wide-byte c = search needs
+shared-slice-read-wide-byte : tie.Need-shared-slice-read-wide-byte Inv-loop μ-loop
+shared-slice-read-wide-byte c = search needs
 
 wide-byte-requires-2 : tie.Need-wide-byte-requires-2 Inv-loop μ-loop
 wide-byte-requires-2 c κs = search needs
@@ -52,18 +50,17 @@ put-requires c κs = search needs
 returns : tie.Need-returns Inv-loop μ-loop
 returns c = search needs
 
-pub out-spec : {M : Type 1} → statement M
-out-spec =
+pub bytes-spec : {M : Type 1} → statement M
+bytes-spec =
     tie.close
     (tie.spec
     Inv-loop
     μ-loop
-    slice-aggregate-word
     word-requires
     loop-holds
     byte-requires
     wide-byte-requires
-    element-copy-out-wide-byte
+    shared-slice-read-wide-byte
     wide-byte-requires-2
     next-requires
     after-requires
