@@ -1,3 +1,4 @@
 pub mod Demanded
 pub mod Drawers
 pub mod Front
+pub mod Walks

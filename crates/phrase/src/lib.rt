@@ -1,12 +1,14 @@
 // The calls of document 01 that take a caller's list of step records.
 use meaning::Checked;
 use meaning::Decoded;
+use meaning::Read;
 use meaning::Scored;
 use meaning::Step;
 ghost use mathlib.Core.Path.{_≡_};
 ghost use lib.ListN.{length};
-ghost use Rattle.meaning.specs.Reply.{checkedReply, scoredReply, scoreProposal, Decodes};
+ghost use Rattle.meaning.specs.Reply.{checkedReply, readReply, writtenIf, scoredReply, scoreProposal, Decodes};
 ghost use Rattle.meaning.specs.Round.{asRecords, decodeRound, roundRefusal, directionsOf, RoundLists};
+ghost use Rattle.meaning.specs.Sheet.{roundSheet, sheetRefusal, sheetReply};
 ghost use Rattle.round_rows.specs.Rows.{lentRecords};
 
 // "Scoring a proposed list", of any length: questions 2 to 6, 9, 10 and 16 to 19, and where none refuses the score of the steps and the four counts of
@@ -60,6 +62,37 @@ pub fn decode_round(
         words,
         store,
         answers,
+    );
+    records::rows::put_over(steps, answer.rows);
+    answer.reply
+}
+
+// Ticket 8: a round decoded as `decode_round` does, and its sheet put at the beginning of `sheet`: how many bytes it is. A refusal changes no list.
+pub fn round_sheet(
+    book: &[i32],
+    directions: &[u16],
+    ends: &[usize],
+    width: i64,
+    steps: &mut [Step],
+    words: &mut [u16],
+    store: &mut [i64],
+    answers: &mut [i64],
+    sheet: &mut [u8],
+) -> Read
+    ensures { λ r. ⌜ readReply r ≡ sheetReply (now (book .entry)) (now (directions .entry)) (now (ends .entry)) width (lentRecords (length (now (steps .entry))) (now (words .entry)) (now (store .entry))) (length (now (answers .entry))) (length (now (sheet .entry))) ⌝ }
+    ensures { λ _. ⌜ RoundLists asRecords (sheetRefusal (now (book .entry)) (now (directions .entry)) (now (ends .entry)) (lentRecords (length (now (steps .entry))) (now (words .entry)) (now (store .entry))) (length (now (answers .entry))) (length (now (sheet .entry)))) (now (book .entry)) (directionsOf (now (directions .entry)) (now (ends .entry))) width (now (steps .entry)) (now (steps .exit)) (now (words .entry)) (now (words .exit)) (now (store .entry)) (now (store .exit)) (now (answers .entry)) (now (answers .exit)) ⌝ }
+    ensures { λ _. ⌜ now (sheet .exit) ≡ writtenIf (sheetRefusal (now (book .entry)) (now (directions .entry)) (now (ends .entry)) (lentRecords (length (now (steps .entry))) (now (words .entry)) (now (store .entry))) (length (now (answers .entry))) (length (now (sheet .entry)))) (roundSheet (now (book .entry)) (now (directions .entry)) (now (ends .entry)) width (length (now (store .entry)))) (now (sheet .entry)) ⌝ }
+{
+    let answer = round_rows::sheet_rows(
+        book,
+        directions,
+        ends,
+        width,
+        steps.len(),
+        words,
+        store,
+        answers,
+        sheet,
     );
     records::rows::put_over(steps, answer.rows);
     answer.reply
