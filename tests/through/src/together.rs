@@ -8,28 +8,6 @@ use second::round::Lists;
 use second::round_cases::RoundCase;
 use second::sheet_cases::{SheetCase, Sheeted};
 
-extern "C" {
-    fn phrase_round_sheet(
-        book: *const i32,
-        book_len: usize,
-        directions: *const u16,
-        directions_len: usize,
-        ends: *const usize,
-        ends_len: usize,
-        width: i64,
-        steps: *mut u16,
-        steps_len: usize,
-        words: *mut u16,
-        words_len: usize,
-        store: *mut i64,
-        store_len: usize,
-        answers: *mut i64,
-        answers_len: usize,
-        sheet: *mut u8,
-        sheet_len: usize,
-    ) -> i64;
-}
-
 /// How many places each list has behind the part that is lent.
 const BEHIND: usize = 100;
 
@@ -133,27 +111,17 @@ fn sheet_by_second(case: &SheetCase, before: &Sheeted) -> (Result<usize, u8>, Sh
 fn sheeted(case: &SheetCase, before: &Sheeted) -> (i64, Sheeted) {
     let mut after = before.clone();
     let (round, lists) = (&case.round, &mut after.lists);
-    let reply = unsafe {
-        phrase_round_sheet(
-            round.book.as_ptr(),
-            round.book.len(),
-            round.directions.as_ptr(),
-            round.directions.len(),
-            round.ends.as_ptr(),
-            round.ends.len(),
-            round.width,
-            lists.steps.as_mut_ptr(),
-            round.steps_len,
-            lists.words.as_mut_ptr(),
-            round.words_len,
-            lists.store.as_mut_ptr(),
-            round.store_len,
-            lists.answers.as_mut_ptr(),
-            round.answers_len,
-            after.sheet.as_mut_ptr(),
-            case.sheet_len,
-        )
-    };
+    let reply = library::round_sheet(
+        &round.book,
+        &round.directions,
+        &round.ends,
+        round.width,
+        &mut lists.steps[..round.steps_len],
+        &mut lists.words[..round.words_len],
+        &mut lists.store[..round.store_len],
+        &mut lists.answers[..round.answers_len],
+        &mut after.sheet[..case.sheet_len],
+    );
     (reply, after)
 }
 
