@@ -1,4 +1,5 @@
-/* A medication round: four drawers' directions decoded together, with one book, width and store. Build and run: example/run-round */
+/* A medication round: four drawers' directions decoded together, with one book, width and store, and the sheet of the round. Build and run:
+ * example/run-round */
 #include "phrase.h"
 
 #include <stdio.h>
@@ -9,6 +10,7 @@
 static uint8_t text[1 << 20];
 static int32_t book[1 << 18];
 static int64_t store[8 * STATES];
+static uint8_t sheet[2048];
 
 int main(void)
 {
@@ -44,5 +46,10 @@ int main(void)
     refusal = phrase_decode_round(book, (size_t)used, directions, 7, falling, DRAWERS, -1, steps, 96 * DRAWERS, words, 256 * DRAWERS,
                                   store, 8 * STATES, answers, 9 * DRAWERS);
     printf("the same with an end that falls: %d; every list is as before\n", refusal);
+    int64_t length = phrase_round_sheet(book, (size_t)used, directions, 7, ends, DRAWERS, -1, steps, 96 * DRAWERS, words, 256 * DRAWERS,
+                                        store, 8 * STATES, answers, 9 * DRAWERS, sheet, sizeof sheet);
+    if (length < 0)
+        return 1;
+    fwrite(sheet, 1, (size_t)length, stdout);
     return 0;
 }
