@@ -35,8 +35,8 @@ pub record Reads (text directions₀ ends₀ directions ends : List ℕ) (n at f
   pub same : length directions ≡ length directions₀
   pub same-ends : length ends ≡ length ends₀
 
--- at most 64 lines, and lists for as many
-module _ (text directions₀ ends₀ : List ℕ) (lines : within 1 64 (length (directionTexts text)) ≡ true) (room : 2_048 ≤ length directions₀) (places : 64 ≤ length ends₀) where
+-- 1 to 64 lines, and lists for as many
+module _ (text directions₀ ends₀ : List ℕ) (pre : (within 1 64 (length (directionTexts text)) ≡ true) × ((2_048 ≤ length directions₀) × (64 ≤ length ends₀))) where
   pub reads-begin : Reads text directions₀ ends₀ directions₀ ends₀ 0 0 0
   reads-begin = record { done = []; lines = refl; left = refl; counted = refl; standing = none-stand directions₀; reached = omega arith; same = refl; same-ends = refl }
 
@@ -56,16 +56,16 @@ module _ (text directions₀ ends₀ : List ℕ) (lines : within 1 64 (length (d
       parted = ap (λ (ls : List (List ℕ)). r .done ++ ls) (sym (l .line)) ∙ r .lines
 
       pub reads-few : n < 64
-      reads-few = omega (arith, ap length parted, length-append (r .done) (line ∷ others), r .counted, between 1 64 (length (directionTexts text)) lines .1)
+      reads-few = omega (arith, ap length parted, length-append (r .done) (line ∷ others), r .counted, between 1 64 (length (directionTexts text)) (pre .0) .1)
 
       pub reads-small : at + 32 ≤ 2_048
       reads-small = omega (arith, reads-few, r .standing .few, length-map (r .done) directionOf, r .counted)
 
       pub reads-room : at + 32 ≤ length directions
-      reads-room = omega (arith, reads-small, r .same)
+      reads-room = omega (arith, reads-small, r .same, pre .1 .0)
 
       pub reads-place : n < length ends
-      reads-place = omega (arith, reads-few, r .same-ends)
+      reads-place = omega (arith, reads-few, r .same-ends, pre .1 .1)
 
       refusals : textsRefusal (line ∷ others) ≡ textsRefusal (directionTexts text)
       refusals = ap textsRefusal (sym (l .line)) ∙ r .left
@@ -94,10 +94,10 @@ module _ (text directions₀ ends₀ : List ℕ) (lines : within 1 64 (length (d
     reads-end h =
         let none = no-texts text from h in
         let all-done : r .done ≡ directionTexts text = sym (append-nil (r .done)) ∙ ap (λ (ls : List (List ℕ)). r .done ++ ls) (sym none) ∙ r .lines in
-        let many : within 1 64 words ≡ true = ap (within 1 64) (length-map (r .done) directionOf ∙ ap length all-done) ∙ lines in
+        let many : within 1 64 words ≡ true = ap (within 1 64) (length-map (r .done) directionOf ∙ ap length all-done) ∙ pre .0 in
         record {
           passes = sym (r .left) ∙ ap textsRefusal none;
           counted = r .counted ∙ ap length all-done;
-          right = stand-right (r .standing) many (omega (arith, between 1 64 words many .1, r .standing .few, r .same));
+          right = stand-right (r .standing) many (omega (arith, between 1 64 words many .1, r .standing .few, r .same, pre .1 .0));
           are = stand-are (r .standing) ∙ ap (map directionOf) all-done;
         }

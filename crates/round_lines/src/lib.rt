@@ -27,13 +27,13 @@ fn line_end(text: &[u8], from: usize) -> usize
 pub fn count_lines(text: &[u8]) -> usize
     ensures { λ r. ⌜ r ≡ length (directionTexts (now (text .entry))) ⌝ }
 {
-    let mut n: usize = 0;
+    let mut lines: usize = 0;
     let mut from: usize = 0;
     while from < text.len() {
         from = line_end(text, from);
-        n += 1;
+        lines += 1;
     }
-    n
+    lines
 }
 
 // Reads a line's text into the 32 places from `at` on.

@@ -9,10 +9,10 @@ use Rattle.round_lines.proofs.count_lines.Statement.{statement}
 use Rattle.round_lines.proofs.count_lines.Tie as tie
 
 abbrev Inv-loop : tie.InvT-loop
-Inv-loop text n₀ from₀ n from = (n + length (directionTexts (drop from text)) ≡ length (directionTexts text)) × (n ≤ from) × (from ≤ length text)
+Inv-loop text lines₀ from₀ lines from = (lines + length (directionTexts (drop from text)) ≡ length (directionTexts text)) × (lines ≤ from) × (from ≤ length text)
 
 abbrev μ-loop : tie.MeasureT-loop
-μ-loop text n₀ from₀ n from = length text - from
+μ-loop text lines₀ from₀ lines from = length text - from
 
 loop-holds : tie.Need-loop-holds Inv-loop μ-loop
 loop-holds c = (omega arith, omega arith, omega arith)
@@ -20,8 +20,8 @@ loop-holds c = (omega arith, omega arith, omega arith)
 line-end-requires : tie.Need-line-end-requires Inv-loop μ-loop
 line-end-requires c κs = omega arith
 
-add-n : tie.Need-add-n Inv-loop μ-loop
-add-n c = omega arith
+add-lines : tie.Need-add-lines Inv-loop μ-loop
+add-lines c = omega arith
 
 loop-less : tie.Need-loop-less Inv-loop μ-loop
 loop-less c = let l = c .line-end .ensures .longer in omega arith
@@ -39,4 +39,4 @@ returns c =
 pub count-lines-spec : {M : Type 1} → statement M
 count-lines-spec =
     tie.close
-    (tie.spec Inv-loop μ-loop loop-holds line-end-requires add-n loop-less loop-again returns)
+    (tie.spec Inv-loop μ-loop loop-holds line-end-requires add-lines loop-less loop-again returns)

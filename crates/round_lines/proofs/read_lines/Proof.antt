@@ -1,5 +1,5 @@
 -- The invariant: the lines up to `from` are read.
-use Prim.Native.Nat.{_-_}
+use Prim.Native.Nat.{_-_, _<_}
 use mathlib.Core.Path.{_∙_}
 use native.Mathlib.Omega.{arith}
 use lib.ListN.{length}
@@ -14,7 +14,7 @@ abbrev μ-loop : tie.MeasureT-loop
 μ-loop text directions₀ ends₀ n₀ at₀ from₀ directions ends n at from = length text - from
 
 loop-holds : tie.Need-loop-holds Inv-loop μ-loop
-loop-holds c = let s = c .before .before .before in reads-begin _ _ _ (s .pre .0) (s .pre .1 .0) (s .pre .1 .1)
+loop-holds c = let s = c .before .before .before in reads-begin _ _ _ (s .pre)
 
 line-end-requires : tie.Need-line-end-requires Inv-loop μ-loop
 line-end-requires c κs = omega arith
@@ -29,7 +29,14 @@ part-read-at-end : tie.Need-part-read-at-end Inv-loop μ-loop
 part-read-at-end c = c .line-end .ensures .inside
 
 read-at-requires : tie.Need-read-at-requires Inv-loop μ-loop
-read-at-requires c κs = let s = c .before .before .before .before .before .before .before .before in reads-room _ _ _ (s .pre .0) (s .pre .1 .0) (s .pre .1 .1) (c .before .before .before .before .loop .inv) (c .before .before .line-end .ensures)
+read-at-requires c κs = let l = c .before .before in let st = l .before .before in let s = st .before .before .before .before in reads-room _ _ _ (s .pre) (st .loop .inv) (l .line-end .ensures)
+
+-- the turn's line, once its text is read: how many lines and words come before it
+abbrev line : tie.After-known-told Inv-loop μ-loop → tie.After-line-end Inv-loop μ-loop
+line c = c .before .before .before .before .before .before .before .before
+
+few : (c : tie.After-line-end Inv-loop μ-loop) → c .before .before .loop .n < 64
+few c = let st = c .before .before in reads-few _ _ _ (st .before .before .before .before .pre) (st .loop .inv) (c .line-end .ensures)
 
 enum-known-count : tie.Need-enum-known-count Inv-loop μ-loop
 enum-known-count c = c .match .keys1
@@ -45,31 +52,31 @@ same-length-2 c = c .before .before .before .before .before .before .before .bef
 
 returns : tie.Need-returns Inv-loop μ-loop
 returns c =
-    let s = c .before .before .before .before .before .before .before .before .before .before .before .before .before .before in
-    reads-refused _ _ _ (s .pre .0) (s .pre .1 .0) (s .pre .1 .1) (c .before .before .before .before .before .before .before .before .before .before .loop .inv) (c .before .before .before .before .before .before .before .before .line-end .ensures) (c .before .refusal .given .0 .0) (rw (c .before .refusal .given .1) at (c .before .before .before .before .before .read-at .ensures))
+    let l = c .before .before .before .before .before .before .before .before in let st = l .before .before in let s = st .before .before .before .before in
+    reads-refused _ _ _ (s .pre) (st .loop .inv) (l .line-end .ensures) (c .before .refusal .given .0 .0) (rw (c .before .refusal .given .1) at (c .before .before .before .before .before .read-at .ensures))
 
 add-at : tie.Need-add-at Inv-loop μ-loop
 add-at c =
-    let s = c .before .before .before .before .before .before .before .before .before .before .before .before .before .before in
+    let l = line c in let st = l .before .before in let s = st .before .before .before .before in
     let p = rw (c .before .count .given .1) at (c .before .before .before .before .before .read-at .ensures) in
-    omega (arith, p .few, reads-small _ _ _ (s .pre .0) (s .pre .1 .0) (s .pre .1 .1) (c .before .before .before .before .before .before .before .before .before .before .loop .inv) (c .before .before .before .before .before .before .before .before .line-end .ensures))
+    omega (arith, p .few, reads-small _ _ _ (s .pre) (st .loop .inv) (l .line-end .ensures))
 
 mul-ends : tie.Need-mul-ends Inv-loop μ-loop
-mul-ends c = let s = c .before .before .before .before .before .before .before .before .before .before .before .before .before .before in omega (arith, reads-few _ _ _ (s .pre .0) (s .pre .1 .0) (s .pre .1 .1) (c .before .before .before .before .before .before .before .before .before .before .loop .inv) (c .before .before .before .before .before .before .before .before .line-end .ensures))
+mul-ends c = omega (arith, few (line c))
 
 slice-write-ends : tie.Need-slice-write-ends Inv-loop μ-loop
-slice-write-ends c = let s = c .before .before .before .before .before .before .before .before .before .before .before .before .before .before in reads-place _ _ _ (s .pre .0) (s .pre .1 .0) (s .pre .1 .1) (c .before .before .before .before .before .before .before .before .before .before .loop .inv) (c .before .before .before .before .before .before .before .before .line-end .ensures)
+slice-write-ends c = let l = line c in let st = l .before .before in let s = st .before .before .before .before in reads-place _ _ _ (s .pre) (st .loop .inv) (l .line-end .ensures)
 
 add-n : tie.Need-add-n Inv-loop μ-loop
-add-n c = let s = c .before .before .before .before .before .before .before .before .before .before .before .before .before .before in omega (arith, reads-few _ _ _ (s .pre .0) (s .pre .1 .0) (s .pre .1 .1) (c .before .before .before .before .before .before .before .before .before .before .loop .inv) (c .before .before .before .before .before .before .before .before .line-end .ensures))
+add-n c = omega (arith, few (line c))
 
 loop-less : tie.Need-loop-less Inv-loop μ-loop
-loop-less c = let l = c .before .before .before .before .before .before .before .before .line-end .ensures .longer in omega arith
+loop-less c = let l = line c .line-end .ensures .longer in omega arith
 
 loop-again : tie.Need-loop-again Inv-loop μ-loop
 loop-again c =
-    let s = c .before .before .before .before .before .before .before .before .before .before .before .before .before .before in
-    reads-next _ _ _ (s .pre .0) (s .pre .1 .0) (s .pre .1 .1) (c .before .before .before .before .before .before .before .before .before .before .loop .inv) (c .before .before .before .before .before .before .before .before .line-end .ensures) (rw (c .before .count .given .1) at (c .before .before .before .before .before .read-at .ensures)) (c .before .before .before .before .before .read-at .kept .1 .0)
+    let l = line c in let st = l .before .before in let s = st .before .before .before .before in
+    reads-next _ _ _ (s .pre) (st .loop .inv) (l .line-end .ensures) (rw (c .before .count .given .1) at (c .before .before .before .before .before .read-at .ensures)) (c .before .before .before .before .before .read-at .kept .1 .0)
 
 same-length-3 : tie.Need-same-length-3 Inv-loop μ-loop
 same-length-3 c = c .before .loop .inv .same
@@ -78,7 +85,7 @@ same-length-4 : tie.Need-same-length-4 Inv-loop μ-loop
 same-length-4 c = c .before .loop .inv .same-ends
 
 returns-2 : tie.Need-returns-2 Inv-loop μ-loop
-returns-2 c = let s = c .before .before .before .before .before in reads-end _ _ _ (s .pre .0) (s .pre .1 .0) (s .pre .1 .1) (c .before .loop .inv) (omega arith)
+returns-2 c = let s = c .before .before .before .before .before in reads-end _ _ _ (s .pre) (c .before .loop .inv) (omega arith)
 
 pub read-lines-spec : {M : Type 1} → statement M
 read-lines-spec =
