@@ -20,7 +20,7 @@ use Rattle.records.specs.Rows.{rowsTo, putOver}
 use Rattle.lists.specs.Steps.{recordsIn, lentNumbers, decodedNumbers, asNumbers, placesFor}
 use Rattle.lists.proofs.Threes.{how-many}
 use Rattle.lists.proofs.Placed.{take-zeros, rows-first, round-over, same-refusal, room-for}
-use Rattle.round_rows.specs.Rows.{lentRecords, DecodesRows, SheetsRows}
+use Rattle.round_rows.specs.Rows.{DecodesRows, SheetsRows}
 
 module _ (loaded : List ℤ) (directions ends : List ℕ) (width : ℤ) (room count size : ℕ) (words₀ words₁ : List ℕ) (store₀ store₁ answers₀ answers₁ : List ℤ) (after : List ℕ)
     (c : count ≡ placesFor (length ends) room) (s : size ≡ 6144) where
