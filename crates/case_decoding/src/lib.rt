@@ -112,5 +112,5 @@ pub fn render(text: &[u8], at: usize) {
     case_fill::bytes(&mut out, fill);
     let count = rendering::render(&book[..n], &direction[..m], &mut out);
     say::count(count);
-    case_show::bytes(b" out", &out, fill);
+    case_show::out(&out, fill);
 }

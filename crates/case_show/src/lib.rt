@@ -239,3 +239,8 @@ pub fn bytes(name: &[u8], list: &[u8], fill: u16) {
     }
     put(run);
 }
+
+// The bytes that a rendering prints.
+pub fn out(list: &[u8; 4096], fill: u16) {
+    bytes(b" out", list, fill);
+}
