@@ -24,8 +24,6 @@ use denote.Slice.{sliceVal, MutSlice, Room}
 use denote.Lend.{Held, lends-slice}
 use denote.Index.{row, whole-out}
 use denote.Steps.{peeks}
-use denote.Struct.Laws as LL
-use denote.Enum.Laws as EL
 use borrow.Table.Elements.{at as atE, join-app, same-len}
 use borrow.Rule.Array.Share.{room-take}
 use Rattle.meaning.specs.declared.Step.{Step}
