@@ -44,12 +44,18 @@ score-short (negsuc n) h = omega (arith, ap length (negative n), at-most 8 (suc 
 
 -- ---- lines
 
--- a line of one number, of three and of eight
+-- a line of one number, of two, three, four and eight
 line-1-long : (l : ℕ) (a : ℤ) → length (printedLine l (a ∷ [])) ≡ 3 + length (decimal a)
 line-1-long l a = line-long l (a ∷ []) ∙ simp length-append (omega arith)
 
+pub line-2-long : (l : ℕ) (a b : ℤ) → length (printedLine l (a ∷ b ∷ [])) ≡ 4 + length (decimal a) + length (decimal b)
+line-2-long l a b = line-long l (a ∷ b ∷ []) ∙ simp length-append (omega arith)
+
 pub line-3-long : (l : ℕ) (a b c : ℤ) → length (printedLine l (a ∷ b ∷ c ∷ [])) ≡ 5 + length (decimal a) + length (decimal b) + length (decimal c)
 line-3-long l a b c = line-long l (a ∷ b ∷ c ∷ []) ∙ simp length-append (omega arith)
+
+pub line-4-long : (l : ℕ) (a b c d : ℤ) → length (printedLine l (a ∷ b ∷ c ∷ d ∷ [])) ≡ 6 + length (decimal a) + length (decimal b) + length (decimal c) + length (decimal d)
+line-4-long l a b c d = line-long l (a ∷ b ∷ c ∷ d ∷ []) ∙ simp length-append (omega arith)
 
 line-8-long : (l : ℕ) (a b c d e f g h : ℤ) → length (printedLine l (a ∷ b ∷ c ∷ d ∷ e ∷ f ∷ g ∷ h ∷ []))
     ≡ 10 + length (decimal a) + length (decimal b) + length (decimal c) + length (decimal d) + length (decimal e) + length (decimal f) + length (decimal g) + length (decimal h)

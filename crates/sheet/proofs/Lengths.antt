@@ -2,7 +2,7 @@
 use Prim.Native.Nat.{ℕ, zero, suc, _+_, _*_, _≤_, _<_}
 use native.Mathlib.Nat.{mul-suc}
 use native.Mathlib.Omega.{arith}
-use mathlib.Core.Path.{_≡_, refl, sym, ap, _∙_}
+use mathlib.Core.Path.{_≡_, refl, sym, ap}
 use mathlib.Core.List.{List, [], _∷_, _++_, map, map-append, append-nil}
 use borrow.Author.Tests.{lt-ltb, le-ltb}
 use lib.Dec.{ltb}
@@ -16,21 +16,11 @@ use Rattle.meaning.specs.Render.{decimal, printedLine}
 use Rattle.meaning.specs.State.{scoreBound}
 use Rattle.meaning.specs.Sheet.{Row, directionLine, directionLines, countOf, largest, occurred, answerLine, totalLine, printed, sheetLines, sheetOf}
 use Rattle.decimals.proofs.Digits.{at-most, negative}
-use Rattle.printing.proofs.Lines.{line-long}
-use Rattle.printing.proofs.Lengths.{score-short}
+use Rattle.printing.proofs.Lengths.{line-2-long, line-3-long, line-4-long, score-short}
 use Rattle.sheet.specs.Rows.{rowAt, rowsIn, RowFits, Fits, countLine}
 use Rattle.sheet.proofs.Rows.{rows-none, lines-next, count-small, largest-small, fewer}
 
 -- ════ one line
-
-line-2-long : (l : ℕ) (a b : ℤ) → length (printedLine l (a ∷ b ∷ [])) ≡ 4 + length (decimal a) + length (decimal b)
-line-2-long l a b = line-long l (a ∷ b ∷ []) ∙ simp length-append (omega arith)
-
-line-3-long : (l : ℕ) (a b c : ℤ) → length (printedLine l (a ∷ b ∷ c ∷ [])) ≡ 5 + length (decimal a) + length (decimal b) + length (decimal c)
-line-3-long l a b c = line-long l (a ∷ b ∷ c ∷ []) ∙ simp length-append (omega arith)
-
-line-4-long : (l : ℕ) (a b c d : ℤ) → length (printedLine l (a ∷ b ∷ c ∷ d ∷ [])) ≡ 6 + length (decimal a) + length (decimal b) + length (decimal c) + length (decimal d)
-line-4-long l a b c d = line-long l (a ∷ b ∷ c ∷ d ∷ []) ∙ simp length-append (omega arith)
 
 -- a sum of 64 scores: eleven digits and a minus
 total-digits : (z : ℤ) → Within (64 * scoreBound) z → length (decimal z) ≤ 12

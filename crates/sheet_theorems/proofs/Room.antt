@@ -18,8 +18,7 @@ use Rattle.meaning.specs.Render.{decimal, printedLine}
 use Rattle.meaning.specs.State.{scoreBound}
 use Rattle.meaning.specs.Sheet.{Row, Line, directionLine, directionLines, countOf, largest, occurred, answerLine, totalLine, sheetLines, printed, sheetOf}
 use Rattle.decimals.proofs.Digits.{digit, at-most, negative}
-use Rattle.printing.proofs.Lengths.{line-3-long, two-digits, score-short, each-short}
-use Rattle.printing.proofs.Lines.{line-long}
+use Rattle.printing.proofs.Lengths.{line-2-long, line-3-long, line-4-long, two-digits, score-short, each-short}
 use Rattle.sheet_theorems.proofs.Totals.{total, total-is, total-keep, total-most, total-least, total-numbers}
 use Rattle.sheet_theorems.proofs.Sheet.{isCounted, rows-counted}
 
@@ -32,12 +31,6 @@ pub record OfDecode (row : Row) : Type 0 where
   pub words-refused : 1 ≤ row .answer → row .words ≡ 0
 
 -- ════ lines
-
-line-2-long : (l : ℕ) (a b : ℤ) → length (printedLine l (a ∷ b ∷ [])) ≡ 4 + length (decimal a) + length (decimal b)
-line-2-long l a b = line-long l (a ∷ b ∷ []) ∙ simp length-append (omega arith)
-
-line-4-long : (l : ℕ) (a b c d : ℤ) → length (printedLine l (a ∷ b ∷ c ∷ d ∷ [])) ≡ 6 + length (decimal a) + length (decimal b) + length (decimal c) + length (decimal d)
-line-4-long l a b c d = line-long l (a ∷ b ∷ c ∷ d ∷ []) ∙ simp length-append (omega arith)
 
 -- the digits of a number
 abbrev digitsIn : ℕ → ℕ
