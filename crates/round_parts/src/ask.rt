@@ -64,7 +64,7 @@ fn has_room(count: usize, room: Room) -> bool
 }
 
 // 26 of ends that mark a list of `most` words, then 12.
-fn ask(ends: &[usize], most: usize, room: Room) -> Checked
+pub fn ask(ends: &[usize], most: usize, room: Room) -> Checked
     ensures { λ r. ⌜ CheckedBy (behindBook most (now (ends .entry)) room) r ⌝ }
 {
     if !is_count(ends.len()) {

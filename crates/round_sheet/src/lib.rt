@@ -1,9 +1,8 @@
 // The round sheet (ticket 8): a round's directions decoded together, and the sheet of their answers put in lent bytes.
-use book::entries::INDEX_SIZE;
+use loading::check;
 use meaning::Checked;
 use meaning::Read;
 use meaning::Refusal;
-use opening::Opened;
 use round_parts::ask;
 use round_parts::ask::Room;
 ghost use mathlib.Core.Path.{_≡_};
@@ -20,14 +19,17 @@ ghost use Rattle.round_sheet.specs.Told.{shortRefusal, Tellable, Told};
 // How many bytes are enough for every sheet.
 pub const SHEET_SIZE: usize = 2048;
 
-// The refusal of a round whose sheet has fewer bytes: the round's own, where it has one, and else 7.
+// The refusal of a round whose sheet has fewer bytes: the round's own, where it has one, and else 7. The book is checked, and not opened: no direction of it is
+// decoded.
 pub fn refuse_short(book: &[i32], ends: &[usize], most: usize, room: Room) -> Refusal
     ensures { λ r. ⌜ number r ≡ shortRefusal (now (book .entry)) (now (ends .entry)) most room ⌝ }
 {
-    let mut index = [0u16; INDEX_SIZE];
-    match ask::open_round(book, &mut index, ends, most, room) {
-        Opened::Book(counts) => Refusal::ListTooShort,
-        Opened::Refused(refusal) => refusal,
+    match check::check_book(book) {
+        Checked::Refused(refusal) => refusal,
+        Checked::Passed => match ask::ask(ends, most, room) {
+            Checked::Refused(refusal) => refusal,
+            Checked::Passed => Refusal::ListTooShort,
+        },
     }
 }
 
