@@ -21,11 +21,12 @@ use Rattle.round_parts.specs.declared.ask.Room.{Room}
 abbrev pub areRisingTo : ℕ → ℕ → List ℕ → Bool
 areRisingTo most before ends = areRising before ends && all (λ end. leb end most) ends
 
--- 26, then 12
+-- 26, then 12; then 7, where a sheet is asked for and has too few bytes
 abbrev pub behindBook : ℕ → List ℕ → Room → ℕ
 behindBook most ends room =
     26 unless (within 1 64 (length ends) && areRisingTo most 0 ends)
     orelse 12 unless (leb (32 * length ends) (room .steps) && leb (256 * length ends) (room .words) && leb (9 * length ends) (room .answers))
+    orelse 7 unless room .enough
 
 -- what is replied to such questions
 abbrev pub CheckedBy : ℕ → Checked → Type 0

@@ -1,4 +1,4 @@
-// The questions of a round: the book's, 26 and 12.
+// The questions of a round: the book's, 26 and 12, and 7 of its sheet.
 use meaning::Checked;
 use meaning::Refusal;
 use opening::Opened;
@@ -42,11 +42,12 @@ fn is_count(count: usize) -> bool
     1 <= count && count <= 64
 }
 
-// How many step places, words and answers are lent.
+// How many step places, words and answers are lent; and whether there are bytes enough for a sheet, if one is asked for.
 pub struct Room {
     pub steps: usize,
     pub words: usize,
     pub answers: usize,
+    pub enough: bool,
 }
 
 // There are places for all directions.
@@ -63,8 +64,8 @@ fn has_room(count: usize, room: Room) -> bool
     9 * count <= room.answers
 }
 
-// 26 of ends that mark a list of `most` words, then 12.
-pub fn ask(ends: &[usize], most: usize, room: Room) -> Checked
+// 26 of ends that mark a list of `most` words, then 12, then 7 of a sheet.
+fn ask(ends: &[usize], most: usize, room: Room) -> Checked
     ensures { λ r. ⌜ CheckedBy (behindBook most (now (ends .entry)) room) r ⌝ }
 {
     if !is_count(ends.len()) {
@@ -76,10 +77,13 @@ pub fn ask(ends: &[usize], most: usize, room: Room) -> Checked
     if !has_room(ends.len(), room) {
         return Checked::Refused(Refusal::StepsOrWordsTooShort);
     }
+    if !room.enough {
+        return Checked::Refused(Refusal::ListTooShort);
+    }
     Checked::Passed
 }
 
-// All questions of a round: the book's, 26 and 12. Where they pass, the book is open.
+// All questions of a round: the book's, 26, 12 and 7. Where they pass, the book is open.
 pub fn open_round(
     book: &[i32],
     index: &mut [u16],

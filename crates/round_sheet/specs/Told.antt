@@ -4,20 +4,13 @@ use mathlib.Core.Path.{_≡_}
 use mathlib.Core.List.{List}
 use lib.IntN.{ℤ}
 use lib.ListN.{length}
-use Rattle.meaning.specs.Questions.{_orelse_, number}
-use Rattle.meaning.specs.Book.{bookRefusal}
+use Rattle.meaning.specs.Questions.{number}
 use Rattle.meaning.specs.Reply.{refused, done, readReply, writtenOver}
 use Rattle.meaning.specs.Sheet.{sheetOf}
 use Rattle.meaning.specs.declared.Checked.{Checked}
 use Rattle.meaning.specs.declared.Checked.the-variants.{Passed, Refused}
 use Rattle.meaning.specs.declared.Read.{Read}
-use Rattle.round_parts.specs.Asked.{behindBook}
-use Rattle.round_parts.specs.declared.ask.Room.{Room}
 use Rattle.sheet.specs.Rows.{rowsIn, Fits}
-
--- with fewer bytes than a sheet may need: the round's questions, and then 7
-abbrev pub shortRefusal : List ℤ → List ℕ → ℕ → Room → ℕ
-shortRefusal loaded ends most room = (bookRefusal loaded orelse behindBook most ends room) orelse 7
 
 -- a round that was decoded has answers that fit, and there are bytes enough
 abbrev pub Tellable : Checked → List ℤ → ℕ → List ℕ → Type 0

@@ -1,37 +1,18 @@
 // The round sheet (ticket 8): a round's directions decoded together, and the sheet of their answers put in lent bytes.
-use loading::check;
 use meaning::Checked;
 use meaning::Read;
-use meaning::Refusal;
-use round_parts::ask;
-use round_parts::ask::Room;
 ghost use mathlib.Core.Path.{_≡_};
 ghost use Prim.Native.Nat.{_≤_};
 ghost use lib.ListN.{length};
-ghost use Rattle.meaning.specs.Questions.{number};
 ghost use Rattle.meaning.specs.Reply.{readReply, writtenIf};
 ghost use Rattle.meaning.specs.Round.{directionsOf, RoundLists};
 ghost use Rattle.meaning.specs.Sheet.{roundSheet, sheetRefusal, sheetReply};
 ghost use Rattle.lists.specs.Steps.{asNumbers, lentNumbers};
 ghost use Rattle.sheet.specs.Rows.{Fits};
-ghost use Rattle.round_sheet.specs.Told.{shortRefusal, Tellable, Told};
+ghost use Rattle.round_sheet.specs.Told.{Tellable, Told};
 
 // How many bytes are enough for every sheet.
 pub const SHEET_SIZE: usize = 2048;
-
-// The refusal of a round whose sheet has fewer bytes: the round's own, where it has one, and else 7. The book is checked, and not opened: no direction of it is
-// decoded.
-pub fn refuse_short(book: &[i32], ends: &[usize], most: usize, room: Room) -> Refusal
-    ensures { λ r. ⌜ number r ≡ shortRefusal (now (book .entry)) (now (ends .entry)) most room ⌝ }
-{
-    match check::check_book(book) {
-        Checked::Refused(refusal) => refusal,
-        Checked::Passed => match ask::ask(ends, most, room) {
-            Checked::Refused(refusal) => refusal,
-            Checked::Passed => Refusal::ListTooShort,
-        },
-    }
-}
 
 // The sheet of a round that was decoded: how many bytes it is, or the round's refusal.
 pub fn tell(reply: Checked, count: usize, answers: &[i64], sheet: &mut [u8]) -> Read
@@ -60,14 +41,17 @@ pub fn round_sheet(
     ensures { λ _. ⌜ RoundLists asNumbers (sheetRefusal (now (book .entry)) (now (directions .entry)) (now (ends .entry)) (lentNumbers (now (steps .entry)) (now (words .entry)) (now (store .entry))) (length (now (answers .entry))) (length (now (sheet .entry)))) (now (book .entry)) (directionsOf (now (directions .entry)) (now (ends .entry))) width (now (steps .entry)) (now (steps .exit)) (now (words .entry)) (now (words .exit)) (now (store .entry)) (now (store .exit)) (now (answers .entry)) (now (answers .exit)) ⌝ }
     ensures { λ _. ⌜ now (sheet .exit) ≡ writtenIf (sheetRefusal (now (book .entry)) (now (directions .entry)) (now (ends .entry)) (lentNumbers (now (steps .entry)) (now (words .entry)) (now (store .entry))) (length (now (answers .entry))) (length (now (sheet .entry)))) (roundSheet (now (book .entry)) (now (directions .entry)) (now (ends .entry)) width (length (now (store .entry)))) (now (sheet .entry)) ⌝ }
 {
-    if sheet.len() < SHEET_SIZE {
-        let room = Room {
-            steps: steps.len() / 3,
-            words: words.len(),
-            answers: answers.len(),
-        };
-        return Read::Refused(refuse_short(book, ends, directions.len(), room));
-    }
-    let reply = rounds::decode_round(book, directions, ends, width, steps, words, store, answers);
+    let enough = SHEET_SIZE <= sheet.len();
+    let reply = rounds::decode_if(
+        book,
+        directions,
+        ends,
+        width,
+        steps,
+        words,
+        store,
+        answers,
+        enough,
+    );
     tell(reply, ends.len(), answers, sheet)
 }

@@ -1,8 +1,8 @@
 -- A round from its questions to its end.
 use Prim.Native.Nat.{ℕ, zero, suc, _+_, _-_, _*_, _/_, _≤_, _<_}
 use native.Mathlib.Omega.{arith}
-use mathlib.Core.Path.{_≡_, refl, ap, _∙_}
-use mathlib.Core.Bool.{Bool, _&&_, _||_}
+use mathlib.Core.Path.{_≡_, refl, ap, _∙_, subst}
+use mathlib.Core.Bool.{Bool, true, _&&_, _||_}
 use mathlib.Core.List.{List, []}
 use borrow.Author.Tests.{leb-true}
 use lib.Dec.{leb}
@@ -14,8 +14,9 @@ use Rattle.laws.proofs.Lists.{all-at}
 use Rattle.laws.proofs.Tests.{both, between}
 use Rattle.meaning.specs.Questions.{_unless_, _orelse_, within, number}
 use Rattle.meaning.specs.Book.{bookRefusal}
-use Rattle.meaning.specs.Reply.{checkedReply, decodedReply, decode, writtenOver}
+use Rattle.meaning.specs.Reply.{reply, checkedReply, decodedReply, decode, writtenOver}
 use Rattle.meaning.specs.Round.{areRising, directionsOf, roundRefusal, decodeRound, RoundLists, keptIfRefused, alone, answerNumbers}
+use Rattle.meaning.specs.declared.Checked.{Checked}
 use Rattle.meaning.specs.declared.Checked.the-variants.{Passed, Refused}
 use Rattle.meaning.specs.declared.Refusal.{Refusal}
 use Rattle.meaning.proofs.Chains.{first-passes, rest-passes, test-passes}
@@ -36,22 +37,25 @@ use Rattle.round_parts.specs.Asked.{areRisingTo, behindBook}
 use Rattle.round_parts.specs.declared.ask.Room.{Room}
 use Rattle.rounds.proofs.Going.{Roomy, Going, direction-is, going-on, eachSteps, eachWords, eachAnswer}
 
-module _ (loaded : List ℤ) (directions ends : List ℕ) (steps₀ words₀ : List ℕ) (store₀ answers₀ : List ℤ) where
-  -- the room that is lent
+module _ (loaded : List ℤ) (directions ends : List ℕ) (steps₀ words₀ : List ℕ) (store₀ answers₀ : List ℤ) (enough : Bool) where
+  -- the room that is lent, and the refusal
+  abbrev pub refusalIn : ℕ
+  refusalIn = roundRefusal loaded directions ends (lentNumbers steps₀ words₀ store₀) (length answers₀) orelse 7 unless enough
+
   abbrev pub roomIn : Room
-  roomIn = record { steps = length steps₀ / 3; words = length words₀; answers = length answers₀ }
+  roomIn = record { steps = length steps₀ / 3; words = length words₀; answers = length answers₀; enough = enough }
 
   -- the questions as they are asked are those of the definition
-  pub refusal-is : roundRefusal loaded directions ends (lentNumbers steps₀ words₀ store₀) (length answers₀) ≡ bookRefusal loaded orelse behindBook (length directions) ends roomIn
+  pub refusal-is : refusalIn ≡ bookRefusal loaded orelse behindBook (length directions) ends roomIn
   refusal-is =
-      asked-is loaded directions ends (lentNumbers steps₀ words₀ store₀) (length answers₀)
-      ∙ ap (λ (n : ℕ). bookRefusal loaded orelse behindBook (length directions) ends (record { steps = n; words = length words₀; answers = length answers₀ })) (how-many steps₀)
+      asked-is loaded directions ends (lentNumbers steps₀ words₀ store₀) (length answers₀) enough
+      ∙ ap (λ (n : ℕ). bookRefusal loaded orelse behindBook (length directions) ends (record { steps = n; words = length words₀; answers = length answers₀; enough = enough })) (how-many steps₀)
 
   -- ════ they pass
 
   pub record Ready (index : List ℕ) (counts : Counts) : Type 0 where
     pub opened : Open loaded index counts
-    pub passes : roundRefusal loaded directions ends (lentNumbers steps₀ words₀ store₀) (length answers₀) ≡ 0
+    pub passes : refusalIn ≡ 0
     pub many : length ends ≤ 64
     pub above : (k : ℕ) → k < length ends → endBefore 0 ends k < getD ends k 0
     pub inside : (k : ℕ) → k < length ends → getD ends k 0 ≤ length directions
@@ -63,7 +67,7 @@ module _ (loaded : List ℤ) (directions ends : List ℕ) (steps₀ words₀ : L
   ready O z =
       let a = test-passes 25 (within 1 64 (length ends) && areRisingTo (length directions) 0 ends) (first-passes (26 unless (within 1 64 (length ends) && areRisingTo (length directions) 0 ends)) _ z) in
       let b = both (within 1 64 (length ends)) _ a in let r = both (areRising 0 ends) _ (b .1) in
-      let t = test-passes 11 _ (rest-passes (26 unless (within 1 64 (length ends) && areRisingTo (length directions) 0 ends)) _ z) in
+      let t = test-passes 11 (leb (32 * length ends) (length steps₀ / 3) && leb (256 * length ends) (length words₀) && leb (9 * length ends) (length answers₀)) (first-passes _ (7 unless enough) (rest-passes (26 unless (within 1 64 (length ends) && areRisingTo (length directions) 0 ends)) _ z)) in
       let l = both (leb (32 * length ends) (length steps₀ / 3) && leb (256 * length ends) (length words₀)) _ t in let m = both (leb (32 * length ends) (length steps₀ / 3)) _ (l .0) in
       let s = leb-true (32 * length ends) (length steps₀ / 3) (m .0) in
       record {
@@ -134,7 +138,7 @@ module _ (loaded : List ℤ) (directions ends : List ℕ) (steps₀ words₀ : L
 
     abbrev pub Done : List ℕ → List ℕ → List ℤ → List ℤ → Type 0
     Done steps₁ words₁ store₁ answers₁ =
-        RoundLists asNumbers (roundRefusal loaded directions ends (lentNumbers steps₀ words₀ store₀) (length answers₀)) loaded (directionsOf directions ends) width steps₀ steps₁ words₀ words₁ store₀ store₁ answers₀ answers₁
+        RoundLists asNumbers refusalIn loaded (directionsOf directions ends) width steps₀ steps₁ words₀ words₁ store₀ store₁ answers₀ answers₁
 
     -- all directions are decoded
     pub round-ends : {index : List ℕ} {counts : Counts} {k from : ℕ} {swept : Bool} {steps₁ words₁ : List ℕ} {store₁ answers₁ : List ℤ} → Ready index counts
@@ -151,8 +155,7 @@ module _ (loaded : List ℤ) (directions ends : List ℕ) (steps₀ words₀ : L
         })
 
     pub round-passed : {index : List ℕ} {counts : Counts} → Ready index counts
-        → checkedReply Passed ≡ decodeRound loaded directions ends (lentNumbers steps₀ words₀ store₀) (length answers₀)
-    unfolding decodeRound
+        → checkedReply Passed ≡ reply refusalIn tt
     round-passed R = rw (R .passes) refl
 
     -- ════ one refuses
@@ -162,9 +165,24 @@ module _ (loaded : List ℤ) (directions ends : List ℕ) (steps₀ words₀ : L
     kept (suc k) old new h = refl
 
     pub round-refused : (refusal : Refusal) → (bookRefusal loaded orelse behindBook (length directions) ends roomIn) ≡ number refusal
-        → (checkedReply (Refused refusal) ≡ decodeRound loaded directions ends (lentNumbers steps₀ words₀ store₀) (length answers₀)) × Done steps₀ words₀ store₀ answers₀
-    unfolding decodeRound
+        → (checkedReply (Refused refusal) ≡ reply refusalIn tt) × Done steps₀ words₀ store₀ answers₀
     round-refused refusal e =
-        let r : roundRefusal loaded directions ends (lentNumbers steps₀ words₀ store₀) (length answers₀) ≡ number refusal = refusal-is ∙ e in
-        let one : 1 ≤ roundRefusal loaded directions ends (lentNumbers steps₀ words₀ store₀) (length answers₀) = omega (arith, r, number-from refusal) in
+        let r : refusalIn ≡ number refusal = refusal-is ∙ e in
+        let one : 1 ≤ refusalIn = omega (arith, r, number-from refusal) in
         (refused-reply refusal _ _ r, record { steps-are = kept _ _ _ one; words-are = kept _ _ _ one; store-is = kept _ _ _ one; answers-are = kept _ _ _ one })
+
+-- ════ a round that no sheet is asked of
+
+behind-none : (k : ℕ) → k orelse 0 ≡ k
+behind-none zero = refl
+behind-none (suc k) = refl
+
+pub without-sheet : (loaded : List ℤ) (directions ends : List ℕ) (width : ℤ) (steps₀ steps₁ words₀ words₁ : List ℕ) (store₀ store₁ answers₀ answers₁ : List ℤ) (r : Checked)
+    → (checkedReply r ≡ reply (refusalIn loaded directions ends steps₀ words₀ store₀ answers₀ true) tt)
+    × RoundLists asNumbers (refusalIn loaded directions ends steps₀ words₀ store₀ answers₀ true) loaded (directionsOf directions ends) width steps₀ steps₁ words₀ words₁ store₀ store₁ answers₀ answers₁
+    → (checkedReply r ≡ decodeRound loaded directions ends (lentNumbers steps₀ words₀ store₀) (length answers₀))
+    × RoundLists asNumbers (roundRefusal loaded directions ends (lentNumbers steps₀ words₀ store₀) (length answers₀)) loaded (directionsOf directions ends) width steps₀ steps₁ words₀ words₁ store₀ store₁ answers₀ answers₁
+unfolding decodeRound
+without-sheet loaded directions ends width steps₀ steps₁ words₀ words₁ store₀ store₁ answers₀ answers₁ r e =
+    subst (λ (k : ℕ). (checkedReply r ≡ reply k tt) × RoundLists asNumbers k loaded (directionsOf directions ends) width steps₀ steps₁ words₀ words₁ store₀ store₁ answers₀ answers₁)
+    (behind-none (roundRefusal loaded directions ends (lentNumbers steps₀ words₀ store₀) (length answers₀))) e

@@ -30,7 +30,10 @@ returns-3 : tie.Need-returns-3
 returns-3 c = rw (sym (c .before .before .before .before .before .is-count .ensures) ∙ not-false _ (c .before .before .before .before .if1 .left), sym (c .before .before .before .are-rising .ensures) ∙ not-false _ (c .before .before .if2 .left), sym (c .before .has-room .ensures) ∙ not-true _ (c .if3 .taken)) refl
 
 returns-4 : tie.Need-returns-4
-returns-4 c = rw (sym (c .before .before .before .before .before .is-count .ensures) ∙ not-false _ (c .before .before .before .before .if1 .left), sym (c .before .before .before .are-rising .ensures) ∙ not-false _ (c .before .before .if2 .left), sym (c .before .has-room .ensures) ∙ not-false _ (c .if3 .left)) refl
+returns-4 c = rw (sym (c .before .before .before .before .before .before .before .is-count .ensures) ∙ not-false _ (c .before .before .before .before .before .before .if1 .left), sym (c .before .before .before .before .before .are-rising .ensures) ∙ not-false _ (c .before .before .before .before .if2 .left), sym (c .before .before .before .has-room .ensures) ∙ not-false _ (c .before .before .if3 .left), not-true (c .before .before .before .before .before .before .before .before .before .args .room .enough) (c .if4 .taken)) refl
+
+returns-5 : tie.Need-returns-5
+returns-5 c = rw (sym (c .before .before .before .before .before .before .before .is-count .ensures) ∙ not-false _ (c .before .before .before .before .before .before .if1 .left), sym (c .before .before .before .before .before .are-rising .ensures) ∙ not-false _ (c .before .before .before .before .if2 .left), sym (c .before .before .before .has-room .ensures) ∙ not-false _ (c .before .before .if3 .left), not-false (c .before .before .before .before .before .before .before .before .before .args .room .enough) (c .if4 .left)) refl
 
 pub ask-spec : {M : Type 1} → statement M
 ask-spec =
@@ -42,4 +45,5 @@ ask-spec =
     returns-2
     has-room-requires
     returns-3
-    returns-4)
+    returns-4
+    returns-5)
