@@ -1,4 +1,6 @@
 // The answer: the best state's steps as plain numbers, and their target words.
+#![tactic(auto)]
+
 ghost use Rattle.std.specs.Prelude.{◌≡◌, map, ℕ, ◌*◌, ◌≤◌, ◌<◌, length, get_or, take};
 ghost use Rattle.meaning.specs.Book.{book_of};
 ghost use Rattle.derivation.specs.Prepared.{Prepared};
@@ -13,7 +15,7 @@ use meaning::{Answer, Decoded};
 use records::Plain;
 
 // What a decode answers on plain numbers: the steps to write, none on a refusal, and the reply.
-#[derive(Drop)]
+#[derive(Clone, Copy)]
 pub struct PlainReply {
     pub plain: Plain,
     pub reply: Decoded,
@@ -35,7 +37,7 @@ fn steps_of(way: &[usize], d: usize) -> Plain
 }
 
 // The best state of a search: its place in the store, and how many states were entered.
-#[derive(Drop)]
+#[derive(Clone, Copy)]
 pub struct Best {
     pub at: usize,
     pub states: usize,

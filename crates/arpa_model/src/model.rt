@@ -13,7 +13,7 @@ use ngram_lines::{Gram, Row};
 
 // What is known of the n-grams that were met: the survey of their lines behind the book's, whether the word list has all their words (question 24), whether
 // their values are in a score's range (25), and whether `<unk>` alone was among them, with its value.
-#[derive(Drop)]
+#[derive(Clone, Copy)]
 pub struct Model {
     pub survey: Survey,
     pub known: bool,

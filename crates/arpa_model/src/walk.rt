@@ -8,7 +8,7 @@ use tokens::scan;
 
 // A walk over the n-grams: the text's top order, how many lines the word list has, the place of the next line, and the order of the section that it
 // stands in, 0 before the first.
-#[derive(Drop)]
+#[derive(Clone, Copy)]
 pub struct Cursor {
     pub top: usize,
     pub words: usize,
@@ -17,14 +17,14 @@ pub struct Cursor {
 }
 
 // An n-gram that was met, and where the walk goes on.
-#[derive(Drop)]
+#[derive(Clone, Copy)]
 pub struct Met {
     pub gram: Gram,
     pub cursor: Cursor,
 }
 
 // The next n-gram, or that there is none.
-#[derive(Drop)]
+#[derive(Clone, Copy)]
 pub enum Next {
     Gram(Met),
     End,

@@ -1,3 +1,5 @@
+#![tactic(auto)]
+
 pub mod entries;
 pub mod grams;
 pub mod loaded;

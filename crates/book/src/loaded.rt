@@ -8,7 +8,7 @@ use crate::survey::Survey;
 use crate::{grams, survey};
 
 // The survey of a list whose lines are all whole (question 2), or that one is not.
-#[derive(Drop)]
+#[derive(Clone, Copy)]
 pub enum Surveyed {
     Whole(Survey),
     Broken,

@@ -9,7 +9,7 @@ pub const TALLY_SIZE: usize = lines::KINDS + 1;
 
 // What is known of the lines seen so far, beside the tally: how many they are, whether the first is a B line, and whether every
 // number is in its range.
-#[derive(Drop)]
+#[derive(Clone, Copy)]
 pub struct Survey {
     pub lines: usize,
     pub headed: bool,

@@ -7,7 +7,7 @@ ghost use Rattle.book.specs.Target.{EntryFound, IsPart};
 use crate::loaded;
 
 // A part of a list: where it starts, and how many numbers it has.
-#[derive(Drop)]
+#[derive(Clone, Copy)]
 pub struct Part {
     pub start: usize,
     pub size: usize,

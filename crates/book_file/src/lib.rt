@@ -1,4 +1,6 @@
 // What the programs read and write: the file `book.txt`, standard input and standard output.
+#![tactic(auto)]
+
 ghost use Rattle.io.specs.Counts.{IsPrefixLen};
 
 pub const STANDARD_INPUT: i32 = 0;

@@ -1,4 +1,6 @@
 // Calls 5, 6 and 8: scoring and decoding with step records, and the rendering.
+#![tactic(auto)]
+
 use case_line::line;
 use case_line::line::Number;
 use case_records::decoding::Asked;
@@ -22,7 +24,7 @@ pub fn score(text: &[u8], at: usize) {
 
 // What is asked of a decode beside the book and the direction: the width, how many places of
 // each list are lent, and the number that the first place of each holds.
-#[derive(Drop)]
+#[derive(Clone, Copy)]
 struct Wish {
     width: i64,
     room: Number,

@@ -1,5 +1,7 @@
 // What the lists that are lent are full of before the call: numbers that count up from one that the case says, so that no two beside
 // each other are the same.
+#![tactic(auto)]
+
 ghost use Rattle.std.specs.Prelude.{◌≡◌, length};
 
 use meaning::Step;

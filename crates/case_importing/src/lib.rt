@@ -1,5 +1,7 @@
 // Call 11: an ARPA text imported. It reads what it is asked from its line, puts the list that it is to lend at the beginning of an array that is full of other
 // numbers, and prints what it was replied and the whole array.
+#![tactic(auto)]
+
 use case_line::line;
 use case_reply::reply;
 

@@ -4,7 +4,7 @@ ghost use Rattle.std.specs.Prelude.{◌≡◌, ◌≤◌, length, take};
 const STANDARD_INPUT: i32 = 0;
 
 // A line that was read: how many bytes it has, and whether the byte 10 ended it.
-#[derive(Drop)]
+#[derive(Clone, Copy)]
 pub struct Line {
     pub count: usize,
     pub whole: bool,

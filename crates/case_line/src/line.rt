@@ -6,14 +6,14 @@ ghost use Rattle.std.specs.Prelude.{◌≡◌, ◌≤◌, length, take};
 use meaning::Step;
 
 // Digits that were read, and the place behind them.
-#[derive(Drop)]
+#[derive(Clone, Copy)]
 struct Digits {
     size: u64,
     end: usize,
 }
 
 // A number that was read: how far it is from 0, and the place behind its blank.
-#[derive(Drop)]
+#[derive(Clone, Copy)]
 pub struct Number {
     pub minus: bool,
     pub size: u64,
@@ -21,7 +21,7 @@ pub struct Number {
 }
 
 // Where the reader of a list stands: the next item and, in a group, its first item, how many turns are left and the number that counts.
-#[derive(Drop)]
+#[derive(Clone, Copy)]
 pub struct Place {
     pub at: usize,
     first: usize,
@@ -30,28 +30,28 @@ pub struct Place {
 }
 
 // An item of a list, and the place behind it.
-#[derive(Drop)]
+#[derive(Clone, Copy)]
 pub struct Item {
     pub number: Number,
     pub place: Place,
 }
 
 // A list that was read: how many numbers, and the place behind it.
-#[derive(Drop)]
+#[derive(Clone, Copy)]
 pub struct Row {
     pub count: usize,
     pub end: usize,
 }
 
 // A step that was read.
-#[derive(Drop)]
+#[derive(Clone, Copy)]
 struct Taken {
     step: Step,
     end: usize,
 }
 
 // Steps that were read.
-#[derive(Drop)]
+#[derive(Clone, Copy)]
 pub struct Steps {
     pub steps: [Step; 1100],
     pub count: usize,

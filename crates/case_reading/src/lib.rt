@@ -1,5 +1,7 @@
 // Calls 1 to 4 and 7: reading and checking. Each reads what it is asked from its line, fills what it is to lend, and prints what it
 // was replied and what it lent.
+#![tactic(auto)]
+
 use case_line::line;
 use case_line::line::Number;
 use case_reply::{reply, say};

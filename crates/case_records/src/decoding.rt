@@ -5,7 +5,7 @@ ghost use Rattle.meaning.specs.Reply.{Decodes};
 use meaning::{Decoded, Step};
 
 // What decoding replies, and the steps afterwards.
-#[derive(Drop)]
+#[derive(Clone, Copy)]
 pub struct Asked {
     pub reply: Decoded,
     pub steps: [Step; 1100],

@@ -1,4 +1,6 @@
 // The calls with step records, asked with a part of an array of them on loan.
+#![tactic(auto)]
+
 pub mod decoding;
 pub mod rounding;
 pub mod scoring;

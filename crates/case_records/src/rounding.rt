@@ -4,21 +4,21 @@ ghost use Rattle.std.specs.Prelude.{◌≡◌, ◌≤◌, drop};
 use meaning::{Checked, Read, Step};
 
 // The width, and how many of the steps are lent.
-#[derive(Drop)]
+#[derive(Clone, Copy)]
 pub struct Asking {
     pub width: i64,
     pub room: usize,
 }
 
 // What the round replies, and the steps afterwards.
-#[derive(Drop)]
+#[derive(Clone, Copy)]
 pub struct AskedRound {
     pub reply: Checked,
     pub steps: [Step; 1100],
 }
 
 // What the call for a round's sheet replies, and the steps afterwards.
-#[derive(Drop)]
+#[derive(Clone, Copy)]
 pub struct AskedSheet {
     pub reply: Read,
     pub steps: [Step; 1100],

@@ -1,5 +1,7 @@
 // Calls 9 and 10: an entry added, and an entry removed. Each reads what it is asked from its line, puts the list that it is to lend at the beginning of an
 // array that is full of other numbers, and prints what it was replied and the whole array.
+#![tactic(auto)]
+
 use case_line::line;
 use case_reply::reply;
 

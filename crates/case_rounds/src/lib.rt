@@ -1,4 +1,6 @@
 // Calls 12 and 13: a round's directions decoded together, with steps as numbers and with step records.
+#![tactic(auto)]
+
 ghost use Rattle.std.specs.Prelude.{◌≡◌, ◌≤◌, length, take};
 
 use case_line::line;
@@ -31,7 +33,7 @@ pub fn take_ends(text: &[u8], at: usize, list: &mut [usize]) -> Row
 
 // What is asked of a round beside the book, the directions and their ends: the width, how many places of each list are lent, the bytes of
 // a sheet among them, and the number that the first place of each holds.
-#[derive(Drop)]
+#[derive(Clone, Copy)]
 pub struct Wish {
     pub width: i64,
     pub steps: Number,

@@ -1,4 +1,6 @@
 // Calls 14, 15 and 16: a round's sheet, with steps as numbers and with step records, and the program `round`.
+#![tactic(auto)]
+
 use case_line::line;
 use case_records::rounding;
 use case_records::rounding::Asking;
@@ -96,7 +98,7 @@ fn with_records(
 }
 
 // What is asked: the wish, of a sheet with step records or without.
-#[derive(Drop)]
+#[derive(Clone, Copy)]
 struct Call {
     wish: Wish,
     records: bool,

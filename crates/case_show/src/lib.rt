@@ -1,5 +1,7 @@
 // How a lent list is printed after the call: whole. `~n` is n places that are as before, and any other number stands for itself, with
 // `*n` where n in a row are that number.
+#![tactic(auto)]
+
 use case_fill::{after, after_step, byte, garbage, wide_word};
 use case_line::line;
 use case_reply::say;
@@ -7,7 +9,7 @@ use lines::natural;
 use meaning::Step;
 
 // Places in a row that are as before, or that hold one number.
-#[derive(Drop)]
+#[derive(Clone, Copy)]
 struct Run {
     kept: bool,
     value: i64,
@@ -15,7 +17,7 @@ struct Run {
 }
 
 // The same of steps.
-#[derive(Drop)]
+#[derive(Clone, Copy)]
 struct StepRun {
     kept: bool,
     step: Step,

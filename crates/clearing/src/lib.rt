@@ -1,4 +1,6 @@
 // Clearing the store.
+#![tactic(auto)]
+
 ghost use Rattle.std.specs.Prelude.{◌≡◌, pos, length, replicate, ◌+◌, ◌*◌, ◌≤◌};
 ghost use Rattle.store.specs.Store.{Indexed, Zeroed};
 ghost use Rattle.clearing.specs.Swept.{Swept};

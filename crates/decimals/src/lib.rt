@@ -1,5 +1,7 @@
 // Decimal numbers as bytes, put into a lent list from a place on. Each function answers the place after its bytes, so that the
 // next can go on from there; specs/Put says what each leaves in the list.
+#![tactic(auto)]
+
 ghost use Rattle.std.specs.Prelude.{◌≡◌, ◌∷◌, [], ◌+◌, ◌^◌, ◌≤◌, pos, length};
 ghost use Rattle.laws.specs.Integers.{Within};
 ghost use Rattle.meaning.specs.Render.{decimal};

@@ -107,7 +107,7 @@ fn has_room(n: usize, room: usize, words: usize) -> bool
 }
 
 // What is lent beside the words: the caller's step list has `room` places, and the store is all zero where `swept` says so.
-#[derive(Drop)]
+#[derive(Clone, Copy)]
 pub struct Lent {
     pub room: usize,
     pub swept: bool,

@@ -1,4 +1,6 @@
 // Steps on plain numbers: what an entry's words score, where it fits, what it adds to a score, and the state that it leads to.
+#![tactic(auto)]
+
 use language::LanguageModel;
 
 pub mod model;
@@ -7,7 +9,7 @@ pub mod step;
 
 // The numbers of a book and a direction that every step needs: how many words the direction has, the reordering limit, the
 // penalty, how many entries there are, and the language model.
-#[derive(Drop)]
+#[derive(Clone, Copy)]
 pub struct Setup {
     pub n: usize,
     pub limit: usize,
@@ -17,7 +19,7 @@ pub struct Setup {
 }
 
 // A row of target words: the sum of the scores of the triples that they end, within wordsBound, and the last two words.
-#[derive(Drop)]
+#[derive(Clone, Copy)]
 pub struct Row {
     pub score: i32,
     pub word1: u16,
@@ -26,7 +28,7 @@ pub struct Row {
 
 // An entry by its places in the loaded book: where its source words start and how many they are, the same of its target words,
 // and its score.
-#[derive(Drop)]
+#[derive(Clone, Copy)]
 pub struct Phrase {
     pub source: usize,
     pub long: usize,

@@ -1,4 +1,6 @@
 // Directions: reading a direction's text (questions 8, 9, 10, 7) and checking a direction as numbers (9, 10).
+#![tactic(auto)]
+
 ghost use Rattle.std.specs.Prelude.{◌≡◌, true, map, ◌≤◌, pos, length};
 ghost use Rattle.laws.specs.Integers.{nat_of};
 ghost use Rattle.laws.specs.Lists.{all};

@@ -1,4 +1,6 @@
 // A state of the store is extended by every step that may follow it.
+#![tactic(auto)]
+
 ghost use Rattle.std.specs.Prelude.{◌≡◌, ◌+◌, ◌-◌, ◌^◌, ◌<◌};
 ghost use Rattle.meaning.specs.Book.{Entry, book_of};
 ghost use Rattle.derivation.specs.Model.{Model, PhraseOf, Phrased};
@@ -13,21 +15,21 @@ use states::{Added, Grown};
 use store::Place;
 
 // What is searched: the numbers of the book and the direction, and the beam's width (-1: pruning off).
-#[derive(Drop)]
+#[derive(Clone, Copy)]
 pub struct Beam {
     pub setup: derivation::Setup,
     pub width: i64,
 }
 
 // The state that is extended: what its place holds, and the place's number.
-#[derive(Drop)]
+#[derive(Clone, Copy)]
 pub struct Source {
     pub place: store::Place,
     pub at: usize,
 }
 
 // Where it is extended: at the position `first`, from which on `run` positions are free.
-#[derive(Drop)]
+#[derive(Clone, Copy)]
 pub struct Spot {
     pub source: Source,
     pub first: usize,
@@ -35,7 +37,7 @@ pub struct Spot {
 }
 
 // By what it is extended there: by that entry, which is the option with that number. (`option` is for the contracts.)
-#[derive(Drop)]
+#[derive(Clone, Copy)]
 pub struct Turn {
     pub spot: Spot,
     pub option: usize,

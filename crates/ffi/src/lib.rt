@@ -1,4 +1,6 @@
 // The calls for C and Rust (include/phrase.h). A lent list comes as a pointer and a length; whatever is handed in is answered.
+#![tactic(auto)]
+
 ghost use Rattle.std.specs.Prelude.{◌≡◌, pos, length};
 ghost use Rattle.meaning.specs.Questions.{number};
 ghost use Rattle.meaning.specs.Book.{book_refusal, target_part};

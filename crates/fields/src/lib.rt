@@ -1,11 +1,13 @@
 // The text of a book or a direction, a field at a time: a line's letter or a number, with the mark that ends it.
+#![tactic(auto)]
+
 ghost use Rattle.std.specs.Prelude.{◌≡◌, Bool, true, false, ◌&&◌, ◌-◌, ◌≤◌, ◌<◌, length};
 ghost use Rattle.meaning.specs.Numerals.{is_digit};
 ghost use Rattle.fields.specs.Scan.{Line, Field, Minus, Digits, more_digits, signed, letter_kind};
 ghost use Rattle.fields.specs.Fields.{start, NoMore, DigitsRead, FieldRead};
 
 // Digits that were read: the value that they make, and the place behind them.
-#[derive(Drop)]
+#[derive(Clone, Copy)]
 struct Numeral {
     value: u32,
     end: usize,
@@ -13,7 +15,7 @@ struct Numeral {
 
 // A field that was read, a line's letter or a number: its number, and the place behind the mark that ends it. It is good where it
 // is as it should be, with its mark; it is its line's last where the mark is the byte 10.
-#[derive(Drop)]
+#[derive(Clone, Copy)]
 pub struct Piece {
     pub number: i32,
     pub end: usize,

@@ -1,5 +1,7 @@
 // Lists of unsigned 16-bit numbers: one of them as a number to reckon with, and a number below 2 ^ 32 as two of them side by side, its halves:
 // the rest below 65,536, and how many times 65,536. A signed number of 32 bits stands there as a natural one: 2 ^ 31 is added.
+#![tactic(auto)]
+
 ghost use Rattle.std.specs.Prelude.{◌≡◌, ◌+◌, ◌^◌, ◌<◌, length, get_or};
 ghost use Rattle.laws.specs.Lists.{set_from};
 ghost use Rattle.halves.specs.Halves.{half_span, halves_of, whole_at, shifted, signed_at};

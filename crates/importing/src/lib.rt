@@ -1,5 +1,7 @@
 // An ARPA text imported to a loaded book (ticket 6). A list is lent, and the caller names the numbers in use: they are the book, and what stands behind them is
 // the list's unused tail.
+#![tactic(auto)]
+
 ghost use Rattle.std.specs.Prelude.{◌≡◌, ◌≤◌, length, take};
 ghost use Rattle.meaning.specs.Book.{grams_most};
 ghost use Rattle.meaning.specs.Reply.{read_reply};

@@ -1,5 +1,7 @@
 // The target words of a list of steps, and which of triple, pair, word or u supplied the score of each: ticket 3's four counts. They are taken once, of an
 // answer or of a proposed list that was scored; the search does not count.
+#![tactic(auto)]
+
 ghost use Rattle.std.specs.Prelude.{◌≡◌, ℕ, ◌*◌, ◌^◌, ◌≤◌, ◌<◌, length};
 ghost use Rattle.meaning.specs.Book.{Entry, book_of};
 ghost use Rattle.meaning.specs.Reply.{written_over};

@@ -1,5 +1,7 @@
 // The score of a triple in the language model, backed off to shorter histories: the triple's own, else by its last two words, else by the last, else u;
 // and which of them supplies it.
+#![tactic(auto)]
+
 ghost use Rattle.std.specs.Prelude.{◌≡◌, drop};
 ghost use mathlib.Core.List.{[], ◌∷◌, drop_last};
 ghost use Rattle.meaning.specs.Derivation.{backed_off, is_listed, supplier};
@@ -10,7 +12,7 @@ use meaning::Supplier;
 use ngrams::Key;
 
 // What the language model is beside its records: how many there are, how many of them are pairs and words, and the score u of an unseen word.
-#[derive(Drop)]
+#[derive(Clone, Copy)]
 pub struct LanguageModel {
     pub count: usize,
     pub shorter: usize,
@@ -18,7 +20,7 @@ pub struct LanguageModel {
 }
 
 // What a lookup answers: the score of the n-gram, or that it is not listed.
-#[derive(Drop)]
+#[derive(Clone, Copy)]
 enum Score {
     Is(i64),
     Unlisted,

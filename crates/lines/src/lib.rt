@@ -1,5 +1,7 @@
 // A line of a book as numbers, its kind first: what questions 2 and 4 ask of one line. A text's line and a loaded list's line
 // are judged by the same functions.
+#![tactic(auto)]
+
 ghost use Rattle.std.specs.Prelude.{◌≡◌, ◌&&◌, ◌+◌, ◌-◌, ◌%◌, ◌≤◌, pos, neg_ℤ, length, drop};
 ghost use mathlib.Core.List.{drop_last};
 ghost use Rattle.laws.specs.Lists.{all};

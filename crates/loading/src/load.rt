@@ -14,14 +14,14 @@ use book::{loaded, survey};
 use meaning::{Checked, Refusal};
 
 // How many of a book's lines list an n-gram, and how many of those a pair or a word.
-#[derive(Drop)]
+#[derive(Clone, Copy)]
 pub struct Grams {
     pub count: usize,
     pub shorter: usize,
 }
 
 // What the lines of a book answer to questions 2 to 6, 21 and 20: their n-grams' counts, or the refusal.
-#[derive(Drop)]
+#[derive(Clone, Copy)]
 pub enum Loaded {
     Book(Grams),
     Refused(Refusal),

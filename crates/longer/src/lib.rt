@@ -1,4 +1,6 @@
 // The questions of an import behind 23: 24 and 25 of the texts, then those of the caller's book, and those of the longer one.
+#![tactic(auto)]
+
 ghost use Rattle.std.specs.Prelude.{◌≡◌, ◌≤◌, length};
 ghost use Rattle.meaning.specs.Questions.{number, ◌orelse◌};
 ghost use Rattle.meaning.specs.Book.{book_refusal};
@@ -17,7 +19,7 @@ use loading::{check, load};
 use meaning::{Checked, Refusal};
 
 // How many U, D and T lines there are.
-#[derive(Drop)]
+#[derive(Clone, Copy)]
 struct Counts {
     words: usize,
     pairs: usize,
@@ -25,7 +27,7 @@ struct Counts {
 }
 
 // What the longer book has: the value of `<unk>` alone, where the text lists it, how many T lines, and how many numbers more.
-#[derive(Drop)]
+#[derive(Clone, Copy)]
 pub struct Longer {
     pub unknown: bool,
     pub unseen: i32,
@@ -34,7 +36,7 @@ pub struct Longer {
 }
 
 // The answer of questions 24 and 25 and of both books' questions.
-#[derive(Drop)]
+#[derive(Clone, Copy)]
 pub enum Judged {
     Passed(Longer),
     Refused(Refusal),

@@ -1,11 +1,13 @@
 // What the calls and their contracts share: the records and the answers of document 01.
 // specs/ says what each stands for; there is no decoder here.
+#![tactic(auto)]
+
 ghost use Rattle.meaning.specs.Questions.{number};
 ghost use Rattle.meaning.specs.State.{IsStart, score_bound};
 ghost use Rattle.std.specs.Prelude.{◌≡◌, pos};
 
 // A step: entry `entry` of the book translates the direction's words `first` to `last`. All three count from 1.
-#[derive(Drop)]
+#[derive(Clone, Copy)]
 pub struct Step {
     pub first: u16,
     pub last: u16,
@@ -14,7 +16,7 @@ pub struct Step {
 
 // A state: the last two target words, the covered positions as a binary number (its lowest digit is position 1), the last
 // step's last position, and the score.
-#[derive(Drop)]
+#[derive(Clone, Copy)]
 pub struct State {
     pub word1: u16,
     pub word2: u16,
@@ -52,7 +54,7 @@ impl State {
 }
 
 // The question whose answer was no; `number` in specs/Questions gives each its number.
-#[derive(Drop)]
+#[derive(Clone, Copy)]
 pub enum Refusal {
     BookText,
     LineFields,
@@ -118,7 +120,7 @@ pub fn number_of(refusal: Refusal) -> usize
 
 // Which of the triple that a target word ends, the pair, the word alone or u supplied its score; `place` in specs/Derivation gives each its place
 // among the four counts.
-#[derive(Drop)]
+#[derive(Clone, Copy)]
 pub enum Supplier {
     Triple,
     Pair,
@@ -127,7 +129,7 @@ pub enum Supplier {
 }
 
 // Of a derivation's target words, how many were supplied by each.
-#[derive(Drop)]
+#[derive(Clone, Copy)]
 pub struct Supplied {
     pub triples: usize,
     pub pairs: usize,
@@ -136,28 +138,28 @@ pub struct Supplied {
 }
 
 // Reading a book or a direction: how many numbers were written.
-#[derive(Drop)]
+#[derive(Clone, Copy)]
 pub enum Read {
     Numbers(usize),
     Refused(Refusal),
 }
 
 // Checking a loaded book.
-#[derive(Drop)]
+#[derive(Clone, Copy)]
 pub enum Checked {
     Passed,
     Refused(Refusal),
 }
 
 // A successful scoring: the score, and who supplied the scores of the target words.
-#[derive(Drop)]
+#[derive(Clone, Copy)]
 pub struct Totals {
     pub score: i64,
     pub supplied: Supplied,
 }
 
 // Scoring a proposed list of steps.
-#[derive(Drop)]
+#[derive(Clone, Copy)]
 pub enum Scored {
     Done(Totals),
     Refused(Refusal),
@@ -165,7 +167,7 @@ pub enum Scored {
 
 // A successful decode: the score, how many steps and target words were written, how many states were entered, and who supplied the scores of the
 // target words.
-#[derive(Drop)]
+#[derive(Clone, Copy)]
 pub struct Answer {
     pub score: i64,
     pub steps: usize,
@@ -174,7 +176,7 @@ pub struct Answer {
     pub supplied: Supplied,
 }
 
-#[derive(Drop)]
+#[derive(Clone, Copy)]
 pub enum Decoded {
     Done(Answer),
     Refused(Refusal),

@@ -1,4 +1,6 @@
 // Numbers put at the front of a list, and taken out there.
+#![tactic(auto)]
+
 ghost use Rattle.std.specs.Prelude.{◌≡◌, ◌++◌, pos, length, drop, replicate, ◌≤◌};
 ghost use Rattle.meaning.specs.Reply.{written_over};
 

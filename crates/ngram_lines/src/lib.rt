@@ -1,5 +1,7 @@
 // The line of an n-gram of an ARPA text, and what becomes of it: it is passed over, it is `<unk>` alone, or it becomes a U, D or T line. `count` is how many
 // fields it has, and `places` says where they stand.
+#![tactic(auto)]
+
 ghost use Rattle.std.specs.Prelude.{◌≡◌, true, List, ℕ, ◌≤◌, length, take};
 ghost use Rattle.arpa.specs.Values.{is_value, thousandths};
 ghost use Rattle.arpa.specs.File.{is_gram_line, ngram_of};
@@ -15,7 +17,7 @@ use tokens::same::same_bytes;
 use tokens::scan;
 
 // How many fields the line has, the n-gram's order, and how many lines the word list has.
-#[derive(Drop)]
+#[derive(Clone, Copy)]
 pub struct Fields {
     pub count: usize,
     pub order: usize,
@@ -23,14 +25,14 @@ pub struct Fields {
 }
 
 // A word by the word list: its number, 0 where it has none.
-#[derive(Drop)]
+#[derive(Clone, Copy)]
 pub struct Word {
     pub number: usize,
     pub known: bool,
 }
 
 // The numbers of an n-gram's words, 0 for each that it does not have, and whether all of them are known.
-#[derive(Drop)]
+#[derive(Clone, Copy)]
 pub struct Words {
     pub first: usize,
     pub second: usize,
@@ -39,7 +41,7 @@ pub struct Words {
 }
 
 // A line at a row's front: how many numbers it has, whether the word list has its words, and whether its values are in a score's range.
-#[derive(Drop)]
+#[derive(Clone, Copy)]
 pub struct Row {
     pub size: usize,
     pub known: bool,
@@ -47,7 +49,7 @@ pub struct Row {
 }
 
 // What becomes of an n-gram; of `<unk>` alone its value is told.
-#[derive(Drop)]
+#[derive(Clone, Copy)]
 pub enum Gram {
     PassedOver,
     Unknown(i32),

@@ -2,6 +2,8 @@
 // and the records from RECORDS on, eight numbers each (three words, how many of them are the n-gram's, and the score and the weight in two halves
 // each) and the link behind them. A list for fewer records may end behind them; what stands from RECORDS_END on is the caller's. A head or a
 // link is 1 + a record's number, or 0.
+#![tactic(auto)]
+
 ghost use Rattle.std.specs.Prelude.{◌≡◌, ◌+◌, ◌≤◌, ◌<◌, length};
 ghost use Rattle.laws.specs.Index.{latest};
 ghost use Rattle.ngrams.specs.Parts.{bucket_count, record_at};
@@ -25,7 +27,7 @@ pub const RECORDS: usize = BUCKETS;
 pub const RECORDS_END: usize = RECORDS + RECORD_STEP * RECORDS_MOST;
 
 // The words of an n-gram in their order, 0 for each that it does not have, and how many it has: 3 for a triple, 2 for a pair, 1 for a word.
-#[derive(Drop)]
+#[derive(Clone, Copy)]
 pub struct Key {
     pub first: usize,
     pub second: usize,

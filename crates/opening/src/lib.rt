@@ -1,5 +1,7 @@
 // A loaded book is opened once: questions 2 to 6, 21 and 20, the index of its n-grams and the places of its entries. Then a direction is
 // begun: questions 9 and 10, and the numbers that a search or a score works on.
+#![tactic(auto)]
+
 ghost use Rattle.std.specs.Prelude.{◌≡◌, ◌≤◌, length};
 ghost use Rattle.meaning.specs.Book.{book_refusal, book_of};
 ghost use Rattle.book.specs.Entries.{index_size};
@@ -13,7 +15,7 @@ use loading::load::Loaded;
 use meaning::{Checked, Refusal};
 
 // How many entries a book has, how many n-grams, and how many of those are pairs and words.
-#[derive(Drop)]
+#[derive(Clone, Copy)]
 pub struct Counts {
     pub phrases: usize,
     pub grams: usize,
@@ -21,14 +23,14 @@ pub struct Counts {
 }
 
 // What a book answers to questions 2 to 6, 21 and 20: its counts, or the refusal.
-#[derive(Drop)]
+#[derive(Clone, Copy)]
 pub enum Opened {
     Book(Counts),
     Refused(Refusal),
 }
 
 // What a direction answers to questions 9 and 10: the numbers that a search or a score works on, or the refusal.
-#[derive(Drop)]
+#[derive(Clone, Copy)]
 pub enum Start {
     Ready(Setup),
     Refused(Refusal),

@@ -1,5 +1,7 @@
 // The steps that fit: every entry at every first position, and the test of one proposed step.
 // They are one list of two parts: where the options of each first position begin, and then their entry numbers.
+#![tactic(auto)]
+
 ghost use Rattle.std.specs.Prelude.{◌≡◌, ◌&&◌, ◌+◌, ◌*◌, ◌^◌, ◌≤◌, ◌<◌, eqb, leb, length};
 ghost use Rattle.laws.specs.Lists.{eq_list};
 ghost use Rattle.meaning.specs.Book.{Entry, book_of};

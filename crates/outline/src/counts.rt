@@ -14,7 +14,7 @@ use tokens::scan;
 pub const HIGHEST: usize = 3;
 
 // Count lines that were read: how many, and the place behind them.
-#[derive(Drop)]
+#[derive(Clone, Copy)]
 pub struct Counted {
     pub top: usize,
     pub at: usize,

@@ -10,7 +10,7 @@ use tokens::scan;
 
 // Where a walk over the sections' lines stands: the order of the section begun last, 0 before the first, how many of its lines are still to come, and
 // whether `<unk>` alone was listed, 0 or 1.
-#[derive(Drop)]
+#[derive(Clone, Copy)]
 pub struct Cursor {
     pub order: usize,
     pub left: usize,
@@ -18,7 +18,7 @@ pub struct Cursor {
 }
 
 // After one line more: the walk goes on, or ends with the text as it should be, or with a line that is not.
-#[derive(Drop)]
+#[derive(Clone, Copy)]
 enum Advanced {
     On(Cursor),
     Ended,
@@ -26,14 +26,14 @@ enum Advanced {
 }
 
 // The outline of an ARPA text: its top order, and where its sections begin.
-#[derive(Drop)]
+#[derive(Clone, Copy)]
 pub struct Outline {
     pub top: usize,
     pub at: usize,
 }
 
 // Question 23.
-#[derive(Drop)]
+#[derive(Clone, Copy)]
 pub enum Outlined {
     Arpa(Outline),
     Broken,

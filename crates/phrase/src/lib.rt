@@ -1,4 +1,6 @@
 // The calls of document 01 that take a caller's list of step records.
+#![tactic(auto)]
+
 ghost use Rattle.std.specs.Prelude.{◌≡◌, length};
 ghost use Rattle.meaning.specs.Reply.{checked_reply, read_reply, written_if, scored_reply, score_proposal, Decodes};
 ghost use Rattle.meaning.specs.Round.{as_records, decode_round, round_refusal, directions_of, RoundLists};

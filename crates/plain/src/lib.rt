@@ -1,4 +1,6 @@
 // Decoding on plain numbers, with all that a search needs in local arrays: about 759,000 bytes of stack.
+#![tactic(auto)]
+
 ghost use Rattle.std.specs.Prelude.{◌≤◌, length};
 ghost use Rattle.clearing.specs.Swept.{Swept};
 ghost use Rattle.decoder.specs.Decodes.{PlainDecodes};
@@ -14,7 +16,7 @@ use opening::{Counts, Opened, Start};
 
 // What a direction of an open book is decoded with: the book's counts, the width, a step list of `room` places, and a store that is all
 // zero where `swept` says so.
-#[derive(Drop)]
+#[derive(Clone, Copy)]
 pub struct Turn {
     pub counts: Counts,
     pub width: i64,

@@ -1,9 +1,11 @@
 // The covered positions of a direction as a binary number: position 1 is its lowest digit.
+#![tactic(auto)]
+
 ghost use Rattle.std.specs.Prelude.{◌≡◌, ◌+◌, ◌-◌, ◌*◌, ◌^◌, ◌≤◌, ◌<◌, leb, get_or};
 ghost use Rattle.positions.specs.Runs.{run_here, Unpacked, RunsFrom, mask_of};
 
 // How many positions in a row are free, from each position on; place i stands for position i + 1.
-#[derive(Drop)]
+#[derive(Clone, Copy)]
 pub struct Runs {
     pub run: [u8; 33],
 }

@@ -1,5 +1,7 @@
 // What the rendering program prints, a line at a time, put into a lent list of bytes from a place on, as crate `decimals` puts its
 // numbers.
+#![tactic(auto)]
+
 ghost use Rattle.std.specs.Prelude.{◌≡◌, map, ◌+◌, ◌*◌, ◌≤◌, pos, length, take};
 ghost use Rattle.laws.specs.Lists.{concat};
 ghost use Rattle.meaning.specs.Questions.{number};

@@ -1,4 +1,6 @@
 // A proposed list of steps on plain numbers, (first, last, entry) for each: questions 16 to 19, and the score.
+#![tactic(auto)]
+
 ghost use Rattle.std.specs.Prelude.{◌≡◌, ◌+◌, ◌*◌, ◌≤◌, ◌<◌, length};
 ghost use Rattle.meaning.specs.Book.{book_of};
 ghost use Rattle.meaning.specs.Direction.{word_count};
@@ -15,14 +17,14 @@ use meaning::{Refusal, Scored, State, Totals};
 use records::Plain;
 
 // What is asked of a proposed step: the state that it leads to, or the question that refuses it.
-#[derive(Drop)]
+#[derive(Clone, Copy)]
 pub enum Asked {
     Next(State),
     Refused(Refusal),
 }
 
 // What is asked of a proposed list: its score, or the question that refuses it.
-#[derive(Drop)]
+#[derive(Clone, Copy)]
 pub enum Summed {
     Score(i64),
     Refused(Refusal),

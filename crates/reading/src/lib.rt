@@ -1,4 +1,6 @@
 // Reading a book's text: questions 1 to 7 and 20, and its numbers.
+#![tactic(auto)]
+
 ghost use Rattle.std.specs.Prelude.{◌≡◌, true, false, ◌≤◌, length};
 ghost use Rattle.laws.specs.Lists.{all};
 ghost use Rattle.meaning.specs.Questions.{number};
@@ -22,7 +24,7 @@ const SHORT_INDEX: usize = ngrams::RECORDS + ngrams::RECORD_STEP * (SHORT_TEXT /
 const COUNTS: usize = lines::B_IN_LIST - lines::B_IN_TEXT;
 
 // How many numbers the loaded book of a text has, and how many P lines and T lines.
-#[derive(Drop)]
+#[derive(Clone, Copy)]
 struct TextCounts {
     numbers: usize,
     phrases: usize,
@@ -30,14 +32,14 @@ struct TextCounts {
 }
 
 // What a text answers to questions 1 to 6 and 20.
-#[derive(Drop)]
+#[derive(Clone, Copy)]
 enum TextChecked {
     Book(TextCounts),
     Refused(Refusal),
 }
 
 // What is known of the lines of a text that are all good and whole, and how many numbers they have with the two counts; or that one is not.
-#[derive(Drop)]
+#[derive(Clone, Copy)]
 enum TextSurvey {
     Whole { survey: Survey, count: usize },
     Broken,

@@ -1,5 +1,7 @@
 // A lent list of step records, and the same steps as plain numbers. A list of structs is read and written only here: whoever
 // decodes or scores works on a `Plain`, by value, and a round on `rows::Rows`.
+#![tactic(auto)]
+
 ghost use Rattle.std.specs.Prelude.{◌≡◌, ◌<◌, ◌≤◌, min, length};
 ghost use Rattle.meaning.specs.Reply.{written_over};
 ghost use Rattle.records.specs.Plain.{no_steps, step_in, steps_of, Added, Gathered};
@@ -9,7 +11,7 @@ use meaning::Step;
 pub mod rows;
 
 // Up to 33 steps as plain numbers, three to a step: first, last, entry.
-#[derive(Drop)]
+#[derive(Clone, Copy)]
 pub struct Plain {
     pub count: usize,
     pub numbers: [u16; 99],

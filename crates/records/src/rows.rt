@@ -5,7 +5,7 @@ ghost use Rattle.records.specs.Rows.{step_over, row_in, rows_of, put_over};
 use meaning::Step;
 
 // Up to 2,048 steps as plain numbers, three to a step: 64 directions of 32. A step with first position 0 is none.
-#[derive(Drop)]
+#[derive(Clone, Copy)]
 pub struct Rows {
     pub count: usize,
     pub numbers: [u16; 6144],

@@ -1,4 +1,5 @@
 // The rendering program's input and output: `book.txt` and standard input in, what `rendering` gives out.
+#![tactic(auto)]
 
 // Of each input one byte more is read than the program takes, which is enough to see that there are too many.
 pub fn run() {

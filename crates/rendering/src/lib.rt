@@ -1,4 +1,6 @@
 // Document 01's rendering program, from the bytes that it reads to those that it prints.
+#![tactic(auto)]
+
 ghost use Rattle.std.specs.Prelude.{◌≡◌, ◌&&◌, ◌≤◌, leb, length};
 ghost use Rattle.meaning.specs.Direction.{read_direction_refusal};
 ghost use Rattle.meaning.specs.Reply.{written_over};

@@ -1,5 +1,7 @@
 // Adding an entry to a loaded book, and removing one (ticket 5). A list is lent, and the caller names the numbers in use: they are the book, and what
 // stands behind them is the list's unused tail. Each call goes through the book once to check it, and once more to the end of what it moves.
+#![tactic(auto)]
+
 ghost use Rattle.std.specs.Prelude.{◌≡◌, ◌&&◌, ◌≤◌, pos, length, set};
 ghost use Rattle.meaning.specs.Book.{in_list, phrases_most, is_p, is_whole};
 ghost use Rattle.meaning.specs.Reply.{reply, checked_reply, read_reply, written_over};

@@ -1,4 +1,6 @@
 // A text with a direction on each line, as the program `round` reads it: the lines, and the words of each.
+#![tactic(auto)]
+
 ghost use Rattle.std.specs.Prelude.{◌≡◌, true, ◌+◌, ◌≤◌, ◌<◌, length};
 ghost use Rattle.meaning.specs.Questions.{within};
 ghost use Rattle.meaning.specs.Sheet.{direction_texts};

@@ -39,7 +39,7 @@ fn is_count(count: usize) -> bool
 }
 
 // How many step places, words and answers are lent; and whether there are bytes enough for a sheet, if one is asked for.
-#[derive(Drop)]
+#[derive(Clone, Copy)]
 pub struct Room {
     pub steps: usize,
     pub words: usize,

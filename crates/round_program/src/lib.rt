@@ -1,4 +1,6 @@
 // The program `round` (ticket 8), from the bytes that it reads to those that it prints.
+#![tactic(auto)]
+
 ghost use Rattle.std.specs.Prelude.{◌≡◌, true, ◌&&◌, map, leb, length};
 ghost use Rattle.meaning.specs.Questions.{◌unless◌, ◌orelse◌, within};
 ghost use Rattle.meaning.specs.Book.{book_refusal};

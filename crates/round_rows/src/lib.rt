@@ -1,4 +1,6 @@
 // A round for a caller who lends step records: its steps on plain numbers of its own, which `records::rows::put_over` puts in their places.
+#![tactic(auto)]
+
 ghost use Rattle.std.specs.Prelude.{◌≡◌, min};
 ghost use Rattle.lists.specs.Steps.{places_for};
 ghost use Rattle.round_rows.specs.Rows.{DecodesRows, SheetsRows};
@@ -7,14 +9,14 @@ use meaning::{Checked, Read};
 use records::rows::Rows;
 
 // The steps of a round, and its reply.
-#[derive(Drop)]
+#[derive(Clone, Copy)]
 pub struct RowsReply {
     pub rows: Rows,
     pub reply: Checked,
 }
 
 // The steps of a round whose sheet is asked for, and its reply.
-#[derive(Drop)]
+#[derive(Clone, Copy)]
 pub struct SheetReply {
     pub rows: Rows,
     pub reply: Read,

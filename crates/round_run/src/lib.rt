@@ -1,4 +1,5 @@
 // The input and output of the program `round`: `book.txt` and standard input in, what `round_program` gives out.
+#![tactic(auto)]
 
 // Of each input one byte more is read than the program takes, which is enough to see that there are too many.
 pub fn run() {

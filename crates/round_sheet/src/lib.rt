@@ -1,4 +1,6 @@
 // The round sheet (ticket 8): a round's directions decoded together, and the sheet of their answers put in lent bytes.
+#![tactic(auto)]
+
 ghost use Rattle.std.specs.Prelude.{◌≡◌, ◌≤◌, length};
 ghost use Rattle.meaning.specs.Reply.{read_reply, written_if};
 ghost use Rattle.meaning.specs.Round.{directions_of, RoundLists};

@@ -1,4 +1,6 @@
 // A round's directions together (ticket 7): the book is opened once, and each direction is decoded on places of its own.
+#![tactic(auto)]
+
 ghost use Rattle.std.specs.Prelude.{◌≡◌, length};
 ghost use Rattle.meaning.specs.Questions.{◌unless◌, ◌orelse◌};
 ghost use Rattle.meaning.specs.Reply.{reply, checked_reply};

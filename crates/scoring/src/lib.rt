@@ -1,4 +1,6 @@
 // Scoring a proposed list on plain numbers, with what the book and the direction say in a local array: about 494,000 bytes of stack.
+#![tactic(auto)]
+
 ghost use Rattle.std.specs.Prelude.{◌≡◌, ◌≤◌};
 ghost use Rattle.meaning.specs.Reply.{scored_reply, score_proposal};
 ghost use Rattle.records.specs.Plain.{steps_of};

@@ -1,4 +1,6 @@
 // The sets of states, one after the other: those that cover no word, one word, and so on, and each state within the width is extended.
+#![tactic(auto)]
+
 ghost use Rattle.std.specs.Prelude.{◌≡◌, ◌+◌, ◌<◌, pos, length, replicate};
 ghost use Rattle.search_theory.specs.Search.{upto};
 ghost use Rattle.meaning.specs.Book.{book_of};
@@ -13,7 +15,7 @@ use states::Grown;
 use store::Place;
 
 // A place whose state may be extended: its number, the set that is extended, and the best score of that set.
-#[derive(Drop)]
+#[derive(Clone, Copy)]
 pub struct Candidate {
     pub at: usize,
     pub set: usize,

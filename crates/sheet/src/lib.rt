@@ -1,4 +1,6 @@
 // The round sheet (ticket 8), from a round's answers: put into a lent list of bytes from a place on, line by line, as crate `printing` puts its lines.
+#![tactic(auto)]
+
 ghost use Rattle.std.specs.Prelude.{◌≡◌, cond, map, ◌+◌, ◌*◌, ◌≤◌, ◌<◌, max, pos, length};
 ghost use Rattle.laws.specs.Lists.{concat, numbers_from, sumℤ, Each};
 ghost use Rattle.meaning.specs.State.{score_bound};

@@ -1,6 +1,8 @@
 // The word list, by whose lines words are spelled: where its lines start, and an index by which the number of a word is found. The index is ONE list of
 // 16 bits with named parts: the heads of the buckets from 0 on, a head more for the lines that equal an earlier one, which no search meets, and a link for
 // each line from LINKS on. A head or a link is 1 + a line's number, from 0 on, or 0.
+#![tactic(auto)]
+
 ghost use Rattle.std.specs.Prelude.{◌≡◌, ◌+◌, ◌≤◌, ◌<◌, length, drop};
 ghost use Rattle.arpa.specs.Words.{spelled};
 ghost use Rattle.spelling.specs.Lines.{line_size, line_at, starts_size, Starts, Lined};

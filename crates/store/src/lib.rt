@@ -4,6 +4,8 @@
 //   number 0: word1 * 65,536 + word2     1: covered     2: r * 64 + size     3: the link of this place's state     4: score
 //   5: the parent's place     6: the number of its step
 // What is left behind the last place, less than eight numbers, is zero. A head or a link is 1 + a place, or 0 for none.
+#![tactic(auto)]
+
 use meaning::State;
 
 pub mod index;
@@ -11,7 +13,7 @@ pub mod numbers;
 pub mod places;
 
 // What a place holds: a state, how many words it covers, the place of the state that was extended and the number of the step that extended it.
-#[derive(Drop)]
+#[derive(Clone, Copy)]
 pub struct Place {
     pub state: State,
     pub size: usize,
@@ -20,7 +22,7 @@ pub struct Place {
 }
 
 // Where an equal state is.
-#[derive(Drop)]
+#[derive(Clone, Copy)]
 pub enum Found {
     At(usize),
     Nothing,

@@ -1,5 +1,7 @@
 // The texts of books and directions: questions 1 and 8, their numbers, and a book's lines one at a time.
 // A text is read a field at a time (crate `fields`), and each function here is one walk over its fields.
+#![tactic(auto)]
+
 ghost use Rattle.std.specs.Prelude.{◌≡◌, true, ◌≤◌, ◌<◌, length, set};
 ghost use Rattle.meaning.specs.Book.{is_book_text};
 ghost use Rattle.meaning.specs.Direction.{is_direction_text, direction_numbers};
@@ -10,7 +12,7 @@ ghost use Rattle.text.specs.Walk.{text_numbers, RowRead};
 
 // A line of a book's text that was read: how many numbers it has, its kind among them, and the place behind it. It is good where
 // each of its fields is, and the byte 10 ends it.
-#[derive(Drop)]
+#[derive(Clone, Copy)]
 pub struct TextLine {
     pub count: usize,
     pub end: usize,

@@ -1,4 +1,6 @@
 // Values of an ARPA text: whether a field is one, and its thousandths; and counts, which are digits alone.
+#![tactic(auto)]
+
 ghost use Rattle.std.specs.Prelude.{◌≡◌, true, length};
 ghost use Rattle.laws.specs.Lists.{all};
 ghost use Rattle.meaning.specs.Numerals.{is_digit, split, digits_value};

@@ -5,7 +5,7 @@ ghost use Rattle.arpa.specs.Lines.{is_blank};
 ghost use Rattle.tokens.specs.Scan.{run_length, is_space, is_part, note_at, field_at, FieldNoted, LineRead};
 
 // A line that was read: how many fields it has, and a place behind them. A count of 0: there is no further line that is not blank.
-#[derive(Drop)]
+#[derive(Clone, Copy)]
 pub struct Line {
     pub count: usize,
     pub next: usize,

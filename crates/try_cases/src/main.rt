@@ -20,6 +20,8 @@
 //
 // `places`, `steps`, `words`, `store`, `answers` and `sheet` say how many places are lent, `fill` what the first place of each list holds
 // (`case_fill`). To add cases, add lines to `stdin`, and write `stdout` by the second decoder's program `cases`.
+#![tactic(auto)]
+
 use case_line::{input, line};
 use case_reply::say;
 
