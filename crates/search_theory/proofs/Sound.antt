@@ -10,7 +10,7 @@ use native.Mathlib.Omega.{arith}
 use borrow.Author.Tests.{eqb-true, eq-eqb}
 use lib.Dec.{eqb}
 use lib.IntN.{◌+ℤ◌, +ℤ_idl, +ℤ_idr, +ℤ_assoc}
-use Rattle.search_theory.specs.Search.{Problem, St, first, extend, set_of, level, upto, run, closed, best}
+use Rattle.search_theory.specs.Search.{Problem, St, first, extend, set_of, upto, run, closed, best}
 use Rattle.search_theory.specs.Statements.{after, total, Allowed, of, Legal}
 use Rattle.laws.proofs.Lists.{mem_keep, keep_mem}
 use Rattle.search_theory.proofs.Highest.{highest_mem, highest_none}
