@@ -1,4 +1,4 @@
-//! Links the static library that `rt staticlib ffi` writes.
+//! Links the static library that `tests/library` writes.
 fn main() {
     let root = std::env::var("CARGO_MANIFEST_DIR").unwrap();
     println!("cargo:rustc-link-search=native={root}/../../target/staticlib");

@@ -1,21 +1,48 @@
-// What the programs read and write: the file `book.txt`, standard input and standard output.
+// What the programs read: the file `book.txt` and standard input.
 #![tactic(auto)]
 
-ghost use Rattle.io.specs.Counts.{IsPrefixLen};
+ghost use Rattle.std.specs.Prelude.{◌≡◌, ◌≤◌, length, take};
 
-pub const STANDARD_INPUT: i32 = 0;
+use std::fs;
+use std::io::Read;
+use std::rt::Files;
 
-pub const STANDARD_OUTPUT: i32 = 1;
+// Reads until the list is full, the bytes end or a read fails, and says how many bytes it put at the list's beginning.
+fn read_full<R: Read>(from: &mut R, text: &mut [u8]) -> usize
+    ensures { (result ≤ length text.new) × (result ≡ length (take result text.new)) }
+{
+    let mut done: usize = 0;
+    while done < text.len() {
+        match from.read(&mut text[done..]) {
+            Ok(n) => {
+                if n == 0 {
+                    return done;
+                }
+                done += n;
+            }
+            Err(_) => return done,
+        }
+    }
+    done
+}
 
 // Reads the beginning of `book.txt`, and says how many bytes it read: none where the file can't be opened.
-pub fn read_book(text: &mut [u8]) -> usize
-    ensures { IsPrefixLen result text.new }
+pub fn read_book(rt: &impl Files, text: &mut [u8]) -> usize
+    ensures { (result ≤ length text.new) × (result ≡ length (take result text.new)) }
 {
-    let file = os::open_read(b"book.txt");
-    if file < 0 {
-        return 0;
+    match fs::open(rt, "book.txt") {
+        Ok(file) => {
+            let mut from = file;
+            read_full(&mut from, text)
+        }
+        Err(_) => 0,
     }
-    let n = io::read_full(file, text);
-    libc::close(file);
-    n
+}
+
+// Reads the beginning of standard input, and says how many bytes it read.
+pub fn read_input(rt: &impl Input, text: &mut [u8]) -> usize
+    ensures { (result ≤ length text.new) × (result ≡ length (take result text.new)) }
+{
+    let mut from = rt.reader();
+    read_full(&mut from, text)
 }

@@ -1,7 +1,7 @@
 // Standard input, a line at a time.
 ghost use Rattle.std.specs.Prelude.{◌≡◌, ◌≤◌, length, take};
 
-const STANDARD_INPUT: i32 = 0;
+use std::io::BufRead;
 
 // A line that was read: how many bytes it has, and whether the byte 10 ended it.
 #[derive(Clone, Copy)]
@@ -15,14 +15,17 @@ fn wide(b: u8) -> u16 {
     b as u16
 }
 
-// The next byte; 256 where there is none.
-fn take_byte() -> u16 {
-    let mut one = [0u8; 1];
-    let n = io::read_full(STANDARD_INPUT, &mut one);
-    if n == 0 {
-        return 256;
+// The next byte; 256 where there is none. A read that fails counts as the end.
+fn take_byte<R: BufRead>(from: &mut R) -> u16 {
+    let byte = match from.fill_buf() {
+        Ok([first, ..]) => wide(*first),
+        Ok([]) => 256,
+        Err(_) => 256,
+    };
+    if byte < 256 {
+        from.consume(1);
     }
-    wide(one[0])
+    byte
 }
 
 // The byte that the number is, or 0.
@@ -34,12 +37,13 @@ fn low(b: u16) -> u8 {
 }
 
 // The next line, without its byte 10. A line that the list does not hold is cut off.
-pub fn take_line(list: &mut [u8]) -> Line
+pub fn take_line(rt: &impl Input, list: &mut [u8]) -> Line
     ensures { (result.count ≤ length list.new) × (result.count ≡ length (take result.count list.new)) }
 {
+    let mut from = rt.reader();
     let mut count: usize = 0;
     while count < list.len() {
-        let b = take_byte();
+        let b = take_byte(&mut from);
         if b == 10 {
             return Line { count, whole: true };
         }

@@ -1,4 +1,4 @@
-// The calls for C and Rust (include/phrase.h). A lent list comes as a pointer and a length; whatever is handed in is answered.
+// The calls for C and Rust (include/phrase.h), which `ffi_c` exports. A lent list comes as a pointer and a length; whatever is handed in is answered.
 #![tactic(auto)]
 
 ghost use Rattle.std.specs.Prelude.{◌≡◌, pos, length};
@@ -34,8 +34,7 @@ fn count_or_refusal(reply: Read) -> i64
 }
 
 // Reads a book's text: how many numbers were written, or minus the refusal.
-#[unsafe(no_mangle)]
-pub extern "C" fn phrase_read_book(text: &[u8], book: &mut [i32]) -> i64
+pub fn phrase_read_book(text: &[u8], book: &mut [i32]) -> i64
     ensures value { result ≡ count_or_refusal (read_book text.now (length book.old)) }
     ensures book_after { book.new ≡ read_book_list text.now book.old }
 {
@@ -44,8 +43,7 @@ pub extern "C" fn phrase_read_book(text: &[u8], book: &mut [i32]) -> i64
 }
 
 // Reads a direction's text: how many words were written, or minus the refusal.
-#[unsafe(no_mangle)]
-pub extern "C" fn phrase_read_direction(text: &[u8], direction: &mut [u16]) -> i64
+pub fn phrase_read_direction(text: &[u8], direction: &mut [u16]) -> i64
     ensures value { result ≡ count_or_refusal (read_direction text.now (length direction.old)) }
     ensures direction_after { direction.new ≡ read_direction_list text.now direction.old }
 {
@@ -54,8 +52,7 @@ pub extern "C" fn phrase_read_direction(text: &[u8], direction: &mut [u16]) -> i
 }
 
 // Asks questions 2 to 6, 21 and 20 of a loaded book: 0, or the refusal.
-#[unsafe(no_mangle)]
-pub extern "C" fn phrase_check_book(book: &[i32]) -> i32
+pub fn phrase_check_book(book: &[i32]) -> i32
     ensures { result ≡ pos (book_refusal book.now) }
 {
     match loading::check::check_book(book) {
@@ -65,8 +62,7 @@ pub extern "C" fn phrase_check_book(book: &[i32]) -> i32
 }
 
 // Adds a P line, given as loaded numbers, to a loaded book: how many numbers are then in use, or minus the refusal.
-#[unsafe(no_mangle)]
-pub extern "C" fn phrase_add_entry(book: &mut [i32], used: usize, line: &[i32]) -> i64
+pub fn phrase_add_entry(book: &mut [i32], used: usize, line: &[i32]) -> i64
     ensures value { result ≡ count_or_refusal (add_entry book.old used line.now) }
     ensures book_after { book.new ≡ add_entry_list book.old used line.now }
 {
@@ -75,8 +71,7 @@ pub extern "C" fn phrase_add_entry(book: &mut [i32], used: usize, line: &[i32]) 
 }
 
 // Removes an entry from a loaded book: how many numbers are then in use, or minus the refusal.
-#[unsafe(no_mangle)]
-pub extern "C" fn phrase_remove_entry(book: &mut [i32], used: usize, entry: usize) -> i64
+pub fn phrase_remove_entry(book: &mut [i32], used: usize, entry: usize) -> i64
     ensures value { result ≡ count_or_refusal (remove_entry book.old used entry) }
     ensures book_after { book.new ≡ remove_entry_list book.old used entry }
 {
@@ -85,13 +80,7 @@ pub extern "C" fn phrase_remove_entry(book: &mut [i32], used: usize, entry: usiz
 }
 
 // Imports an ARPA text, through a word list, to a loaded book: how many numbers are then in use, or minus the refusal.
-#[unsafe(no_mangle)]
-pub extern "C" fn phrase_import_arpa(
-    arpa: &[u8],
-    spelling: &[u8],
-    book: &mut [i32],
-    used: usize,
-) -> i64
+pub fn phrase_import_arpa(arpa: &[u8], spelling: &[u8], book: &mut [i32], used: usize) -> i64
     ensures value { result ≡ count_or_refusal (import_arpa arpa.now spelling.now book.old used) }
     ensures book_after { book.new ≡ import_arpa_list arpa.now spelling.now book.old used }
 {
@@ -100,8 +89,7 @@ pub extern "C" fn phrase_import_arpa(
 }
 
 // Where an entry's target words start in the loaded book; the list's length where there are none.
-#[unsafe(no_mangle)]
-pub extern "C" fn phrase_target_start(book: &[i32], entry: usize) -> i64
+pub fn phrase_target_start(book: &[i32], entry: usize) -> i64
     ensures { result ≡ pos (target_part book.now entry).start }
 {
     let part = loading::check::target_part(book, entry);
@@ -109,8 +97,7 @@ pub extern "C" fn phrase_target_start(book: &[i32], entry: usize) -> i64
 }
 
 // How many target words an entry has; 0 where it is none of the book.
-#[unsafe(no_mangle)]
-pub extern "C" fn phrase_target_count(book: &[i32], entry: usize) -> i64
+pub fn phrase_target_count(book: &[i32], entry: usize) -> i64
     ensures { result ≡ pos (target_part book.now entry).size }
 {
     let part = loading::check::target_part(book, entry);
@@ -118,13 +105,7 @@ pub extern "C" fn phrase_target_count(book: &[i32], entry: usize) -> i64
 }
 
 // Scores a proposed list of steps: 0, or the refusal; the report is the score, and how many target words were supplied by triples, pairs, words and u.
-#[unsafe(no_mangle)]
-pub extern "C" fn phrase_score(
-    book: &[i32],
-    direction: &[u16],
-    steps: &[u16],
-    report: &mut [i64],
-) -> i32
+pub fn phrase_score(book: &[i32], direction: &[u16], steps: &[u16], report: &mut [i64]) -> i32
     ensures value { result ≡ zero_or_refusal (score_proposal book.now direction.now (records_in steps.now)) }
     ensures report_after { report.new ≡ filled_with (score_report (score_proposal book.now direction.now (records_in steps.now))) report.old }
 {
@@ -140,8 +121,7 @@ pub extern "C" fn phrase_score(
 
 // Finds the best derivation: 0, or the refusal; the report is the score, how many steps, words and states there are, and how many target words were
 // supplied by triples, pairs, words and u.
-#[unsafe(no_mangle)]
-pub extern "C" fn phrase_decode(
+pub fn phrase_decode(
     book: &[i32],
     direction: &[u16],
     width: i64,
@@ -168,8 +148,7 @@ pub extern "C" fn phrase_decode(
 
 // Decodes a round's directions, one after the other: 0, or the refusal of the whole round; nine numbers of `answers` to a direction are its answer, 0 or the
 // refusal, and what a decode reports.
-#[unsafe(no_mangle)]
-pub extern "C" fn phrase_decode_round(
+pub fn phrase_decode_round(
     book: &[i32],
     directions: &[u16],
     ends: &[usize],
@@ -190,8 +169,7 @@ pub extern "C" fn phrase_decode_round(
 
 // Decodes a round's directions as `phrase_decode_round` does, and puts the sheet of their answers at the beginning of `sheet`: its length, or minus the
 // refusal. A refusal changes no list.
-#[unsafe(no_mangle)]
-pub extern "C" fn phrase_round_sheet(
+pub fn phrase_round_sheet(
     book: &[i32],
     directions: &[u16],
     ends: &[usize],

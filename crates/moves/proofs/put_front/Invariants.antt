@@ -1,0 +1,12 @@
+-- After i turns the first i numbers are put, and the others as they were.
+use mathlib.Core.Path.{◌≡◌}
+use Prim.Native.Nat.{◌-◌, ◌≤◌}
+use Rattle.moves.proofs.Moving.{Moved}
+use lib.ListN.{length}
+use Rattle.moves.proofs.put_front.Given as goal
+
+abbrev pub invariant-loop-i : goal.invariant-loop-i
+invariant-loop-i l = (l.i ≤ length l.numbers) × ((length l.list ≡ length l.initial.list) × Moved l.numbers l.initial.list l.i l.list)
+
+abbrev pub decreases-loop-i : goal.decreases-loop-i
+decreases-loop-i l = length l.numbers - l.i
