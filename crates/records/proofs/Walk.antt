@@ -2,7 +2,7 @@
 use Prim.Native.Nat.{ℕ, zero, suc, ◌<◌, ◌*◌, ◌^◌}
 use native.Mathlib.Omega.{arith}
 use mathlib.Core.List.{List, [], ◌∷◌}
-use mir.Syntax.{Ty, Local, local, Body, skip, seq, assign, block, loop, cond, switch, exit, return, call, ty_unit}
+use mir.Syntax.{Ty, Local, local, Body, skip, seq, assign, block, loop, cond, switch, exit, return, call, call_v, lend_static, unreachable, ty_unit}
 use denote.Slice.{Room}
 use Rattle.meaning.specs.contracts.Step as T
 
@@ -22,6 +22,9 @@ after (switch c s) = skip
 after (exit n) = skip
 after return = skip
 after (call f xs d) = skip
+after unreachable = skip
+after (call_v _ _ _ _) = skip
+after (lend_static _ _ _) = skip
 
 -- the type of local k, as the function has it
 abbrev pub ty_at : List Local → ℕ → Ty
