@@ -1,22 +1,20 @@
-// Words and numbers of a case's line.
-
-// Standard output.
-const OUT: i32 = 1;
+// Words and numbers of a case's line, printed. An error is that a write failed.
+use std::io;
 
 // A word of the line.
-pub fn word(text: &[u8]) {
-    io::write_all(OUT, text);
+pub fn word(rt: &impl Print, text: &[u8]) -> io::Result<()> {
+    rt.write_all(text)
 }
 
 // The beginning of the line.
-pub fn begin(label: &[u8]) {
-    word(label);
-    word(b": ");
+pub fn begin(rt: &impl Print, label: &[u8]) -> io::Result<()> {
+    word(rt, label)?;
+    word(rt, b": ")
 }
 
 // A number without a sign.
-pub fn decimal(n: u64) {
-    io::print_decimal(OUT, n);
+pub fn decimal(rt: &impl Print, n: u64) -> io::Result<()> {
+    rt.print(n)
 }
 
 // The number, or 0 where it is negative.
@@ -33,17 +31,17 @@ fn score_size(z: i64) -> u64 {
 }
 
 // A score.
-pub fn score(z: i64) {
+pub fn score(rt: &impl Print, z: i64) -> io::Result<()> {
     if z < 0 {
-        word(b"-");
+        word(rt, b"-")?;
     }
-    decimal(score_size(z));
+    decimal(rt, score_size(z))
 }
 
 // `N,` and a count.
-pub fn count(n: usize) {
-    word(b"N,");
-    decimal(n as u64);
+pub fn count(rt: &impl Print, n: usize) -> io::Result<()> {
+    word(rt, b"N,")?;
+    decimal(rt, n as u64)
 }
 
 // How far a number is from 0: `!z` is -1 - z, and never wraps.
@@ -55,19 +53,20 @@ fn size(z: i32) -> usize {
 }
 
 // A comma and a number.
-fn number(z: i32) {
-    word(b",");
+fn number(rt: &impl Print, z: i32) -> io::Result<()> {
+    word(rt, b",")?;
     if z < 0 {
-        word(b"-");
+        word(rt, b"-")?;
     }
-    decimal(size(z) as u64);
+    decimal(rt, size(z) as u64)
 }
 
 // The numbers of a row, a comma before each.
-pub fn row(numbers: &[i32]) {
+pub fn row(rt: &impl Print, numbers: &[i32]) -> io::Result<()> {
     let mut i: usize = 0;
     while i < numbers.len() {
-        number(numbers[i]);
+        number(rt, numbers[i])?;
         i += 1;
     }
+    Ok(())
 }
