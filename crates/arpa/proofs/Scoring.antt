@@ -11,7 +11,7 @@ use lib.IntN.{ℤ, pos}
 use lib.ListN.{length, take}
 use Rattle.laws.specs.Lists.{all, keep, eq_list}
 use Rattle.laws.proofs.Lists.{keep_++, keep_all, eq_list_is}
-use Rattle.laws.proofs.Tests.{both, both_of, by_test}
+use Rattle.laws.proofs.Tests.{both, by_test}
 use Rattle.meaning.specs.Questions.{◌unless◌}
 use Rattle.meaning.specs.Book.{in_list, Gram, gram_of, order_of, is_gram, book_of_lines, book_of, book_refusal, with_counts}
 use Rattle.meaning.specs.Derivation.{listed, word_score, pair_score, backed_off, triple_score}

@@ -7,6 +7,7 @@ use case_line::line;
 use case_reply::say;
 use lines::natural;
 use meaning::Step;
+use std::io;
 
 // Places in a row that are as before, or that hold one number.
 #[derive(Clone, Copy)]
@@ -25,31 +26,32 @@ struct StepRun {
 }
 
 // `*` and how many, where there are more than one.
-fn times(count: u64) {
+fn times(rt: &impl Print, count: u64) -> io::Result<()> {
     if 1 < count {
-        say::word(b"*");
-        say::decimal(count);
+        say::word(rt, b"*")?;
+        say::decimal(rt, count)?;
     }
+    Ok(())
 }
 
 // `~` and how many.
-fn as_before(count: u64) {
-    say::word(b" ~");
-    say::decimal(count);
+fn as_before(rt: &impl Print, count: u64) -> io::Result<()> {
+    say::word(rt, b" ~")?;
+    say::decimal(rt, count)
 }
 
 // The run, as it is printed.
-fn put(run: Run) {
+fn put(rt: &impl Print, run: Run) -> io::Result<()> {
     if run.count == 0 {
-        return;
+        return Ok(());
     }
     if run.kept {
-        as_before(run.count);
-        return;
+        as_before(rt, run.count)?;
+        return Ok(());
     }
-    say::word(b" ");
-    say::score(run.value);
-    times(run.count);
+    say::word(rt, b" ")?;
+    say::score(rt, run.value)?;
+    times(rt, run.count)
 }
 
 // One place more belongs to the run.
@@ -64,37 +66,37 @@ fn goes_on(run: Run, kept: bool, value: i64) -> bool {
 }
 
 // The run with one place more; where that is not as those before it the run is put, and the next one begins.
-fn next(run: Run, before: i64, value: i64) -> Run {
+fn next(rt: &impl Print, run: Run, before: i64, value: i64) -> io::Result<Run> {
     let kept = before == value;
     if goes_on(run, kept, value) {
         let count = std::num::wrapping_add_u64(run.count, 1);
-        return Run { kept, value, count };
+        return Ok(Run { kept, value, count });
     }
-    put(run);
-    Run {
+    put(rt, run)?;
+    Ok(Run {
         kept,
         value,
         count: 1,
-    }
+    })
 }
 
 // The run of steps, as it is printed.
-fn put_step(run: StepRun) {
+fn put_step(rt: &impl Print, run: StepRun) -> io::Result<()> {
     if run.count == 0 {
-        return;
+        return Ok(());
     }
     if run.kept {
-        as_before(run.count);
-        return;
+        as_before(rt, run.count)?;
+        return Ok(());
     }
     let step = run.step;
-    say::word(b" ");
-    say::decimal(step.first as u64);
-    say::word(b".");
-    say::decimal(step.last as u64);
-    say::word(b".");
-    say::decimal(step.entry as u64);
-    times(run.count);
+    say::word(rt, b" ")?;
+    say::decimal(rt, step.first as u64)?;
+    say::word(rt, b".")?;
+    say::decimal(rt, step.last as u64)?;
+    say::word(rt, b".")?;
+    say::decimal(rt, step.entry as u64)?;
+    times(rt, run.count)
 }
 
 // The two steps are the same.
@@ -115,18 +117,18 @@ fn step_goes_on(run: StepRun, kept: bool, step: Step) -> bool {
 }
 
 // The run with one step more, as `next`.
-fn next_step(run: StepRun, before: Step, step: Step) -> StepRun {
+fn next_step(rt: &impl Print, run: StepRun, before: Step, step: Step) -> io::Result<StepRun> {
     let kept = are_same(before, step);
     if step_goes_on(run, kept, step) {
         let count = std::num::wrapping_add_u64(run.count, 1);
-        return StepRun { kept, step, count };
+        return Ok(StepRun { kept, step, count });
     }
-    put_step(run);
-    StepRun {
+    put_step(rt, run)?;
+    Ok(StepRun {
         kept,
         step,
         count: 1,
-    }
+    })
 }
 
 // A number of a book, in 64 bits.
@@ -146,8 +148,8 @@ fn expected_at(expected: &[i32], i: usize, z: u16) -> i64 {
 }
 
 // The list, against the numbers expected at its beginning: there `~n` is n places as expected.
-pub fn book(list: &[i32; 41000], expected: &[i32], fill: u16) {
-    say::word(b" book");
+pub fn book(rt: &impl Print, list: &[i32; 41000], expected: &[i32], fill: u16) -> io::Result<()> {
+    say::word(rt, b" book")?;
     let mut run = Run {
         kept: false,
         value: 0,
@@ -156,16 +158,16 @@ pub fn book(list: &[i32; 41000], expected: &[i32], fill: u16) {
     let mut z = fill;
     let mut i: usize = 0;
     while i < 41000 {
-        run = next(run, expected_at(expected, i, z), wide(list[i]));
+        run = next(rt, run, expected_at(expected, i, z), wide(list[i]))?;
         z = after(z);
         i += 1;
     }
-    put(run);
+    put(rt, run)
 }
 
 // A list of words, behind its name.
-pub fn words(name: &[u8], list: &[u16], fill: u16) {
-    say::word(name);
+pub fn words(rt: &impl Print, name: &[u8], list: &[u16], fill: u16) -> io::Result<()> {
+    say::word(rt, name)?;
     let mut run = Run {
         kept: false,
         value: 0,
@@ -174,16 +176,16 @@ pub fn words(name: &[u8], list: &[u16], fill: u16) {
     let mut z = fill;
     let mut i: usize = 0;
     while i < list.len() {
-        run = next(run, wide_word(z), wide_word(list[i]));
+        run = next(rt, run, wide_word(z), wide_word(list[i]))?;
         z = after(z);
         i += 1;
     }
-    put(run);
+    put(rt, run)
 }
 
 // A store or answers, in the same way.
-pub fn numbers(name: &[u8], list: &[i64], fill: u16) {
-    say::word(name);
+pub fn numbers(rt: &impl Print, name: &[u8], list: &[i64], fill: u16) -> io::Result<()> {
+    say::word(rt, name)?;
     let mut run = Run {
         kept: false,
         value: 0,
@@ -192,16 +194,16 @@ pub fn numbers(name: &[u8], list: &[i64], fill: u16) {
     let mut z = fill;
     let mut i: usize = 0;
     while i < list.len() {
-        run = next(run, wide_word(z), list[i]);
+        run = next(rt, run, wide_word(z), list[i])?;
         z = after(z);
         i += 1;
     }
-    put(run);
+    put(rt, run)
 }
 
 // The list of steps.
-pub fn steps(list: [Step; 1100], fill: u16) {
-    say::word(b" steps");
+pub fn steps(rt: &impl Print, list: [Step; 1100], fill: u16) -> io::Result<()> {
+    say::word(rt, b" steps")?;
     let mut before = garbage(fill);
     let mut run = StepRun {
         kept: false,
@@ -210,11 +212,11 @@ pub fn steps(list: [Step; 1100], fill: u16) {
     };
     let mut i: usize = 0;
     while i < 1100 {
-        run = next_step(run, before, list[i]);
+        run = next_step(rt, run, before, list[i])?;
         before = after_step(before);
         i += 1;
     }
-    put_step(run);
+    put_step(rt, run)
 }
 
 // A byte, in 64 bits.
@@ -223,8 +225,8 @@ fn wide_byte(b: u8) -> i64 {
 }
 
 // A list of bytes, behind its name.
-pub fn bytes(name: &[u8], list: &[u8], fill: u16) {
-    say::word(name);
+pub fn bytes(rt: &impl Print, name: &[u8], list: &[u8], fill: u16) -> io::Result<()> {
+    say::word(rt, name)?;
     let mut run = Run {
         kept: false,
         value: 0,
@@ -233,14 +235,14 @@ pub fn bytes(name: &[u8], list: &[u8], fill: u16) {
     let mut z = fill;
     let mut i: usize = 0;
     while i < list.len() {
-        run = next(run, wide_byte(byte(z)), wide_byte(list[i]));
+        run = next(rt, run, wide_byte(byte(z)), wide_byte(list[i]))?;
         z = after(z);
         i += 1;
     }
-    put(run);
+    put(rt, run)
 }
 
 // The bytes that a rendering prints.
-pub fn out(list: &[u8; 4096], fill: u16) {
-    bytes(b" out", list, fill);
+pub fn out(rt: &impl Print, list: &[u8; 4096], fill: u16) -> io::Result<()> {
+    bytes(rt, b" out", list, fill)
 }

@@ -10,7 +10,7 @@ use lib.IntN.{ℤ}
 use lib.ListN.{length, get_or, set, length-append, get_or-append}
 use lib.Seq.{get_or-set_same, get_or-set_other, get_or-append_seam}
 use Rattle.laws.proofs.Tests.{by_test}
-use Rattle.meaning.specs.State.{Hyp, start}
+use Rattle.meaning.specs.State.{Hyp}
 use Rattle.meaning.specs.declared.Step.{Step}
 use Rattle.store.specs.Store.{place_at}
 use Rattle.meaning.specs.Derivation.{no_step}

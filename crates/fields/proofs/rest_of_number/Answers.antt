@@ -1,0 +1,8 @@
+-- The digits that follow, and then the mark.
+use Rattle.fields.proofs.Fields.{field_on}
+use Rattle.fields.proofs.rest_of_number.Goals as goal
+
+pub returns : goal.returns
+returns c =
+    let k = c.read_digits-digits.ensures in
+    λ book. field_on (k.on book c.args.minus) k.later (c.end_number.ensures book)
