@@ -53,7 +53,7 @@ pub leading_beside : {st : List ℤ} {count : ℕ} {x : Place} (L : Leading st c
 leading_beside {st} {count} {x} L {k} h e =
     let z = L.same_state k h e in
     let n = L.walks.long in
-    let p = L.parent_in_lem in
+    let p = L.parent_in in
     let b = L.parent_below in
     record {
       walked = L.walks.walked;

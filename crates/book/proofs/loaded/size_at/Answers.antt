@@ -1,0 +1,12 @@
+-- The line at the front of what is left, if all of it is there.
+use mathlib.Core.Path.{refl, ap, ◌∙◌}
+use Rattle.laws.proofs.Lists.{part_rest}
+use Rattle.meaning.specs.Book.{in_list, size_of}
+use Rattle.book.proofs.Cuts.{size_fits, size_passes}
+use Rattle.book.proofs.loaded.size_at.Goals as goal
+
+pub returns-then-size-book : goal.returns-then-size-book
+returns-then-size-book c = size_fits c.args.book.now c.args.at c.size_of-size.result (c.size_of-size.ensures in_list refl ∙ ap (size_of in_list) (part_rest c.args.book.now c.args.at)) c.if-size-book.true
+
+pub returns : goal.returns
+returns c = size_passes c.args.book.now c.args.at c.size_of-size.result (c.size_of-size.ensures in_list refl ∙ ap (size_of in_list) (part_rest c.args.book.now c.args.at)) c.if-size-book.false
