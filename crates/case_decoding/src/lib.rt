@@ -7,9 +7,10 @@ use case_records::decoding::Asked;
 use case_records::{decoding, scoring};
 use case_reply::{reply, say};
 use meaning::Step;
+use std::io;
 
 // 5: the book, the direction and the steps.
-pub fn score(text: &[u8], at: usize) {
+pub fn score(rt: &impl Print, text: &[u8], at: usize) -> io::Result<()> {
     let mut book = [0i32; 140000];
     let mut direction = [0u16; 128];
     let row = line::book(text, at, &mut book);
@@ -19,7 +20,7 @@ pub fn score(text: &[u8], at: usize) {
     let taken = line::take_steps(text, words.end);
     let count = taken.count;
     let steps = taken.steps;
-    reply::scored(scoring::ask(&book[..n], &direction[..m], steps, count));
+    reply::scored(rt, scoring::ask(&book[..n], &direction[..m], steps, count))
 }
 
 // What is asked of a decode beside the book and the direction: the width, how many places of
@@ -73,7 +74,7 @@ fn ask(
 }
 
 // The decode, in lists that are full of garbage.
-fn decode_with(book: &[i32], direction: &[u16], wish: Wish) {
+fn decode_with(rt: &impl Print, book: &[i32], direction: &[u16], wish: Wish) -> io::Result<()> {
     let fill = wish.fill;
     let mut words = [0u16; 2000];
     let mut store = [0i64; 33000];
@@ -83,25 +84,25 @@ fn decode_with(book: &[i32], direction: &[u16], wish: Wish) {
     let asked = ask(book, direction, wish, steps, &mut words, &mut store);
     let answer = asked.reply;
     let after = asked.steps;
-    reply::decoded(answer);
-    case_show::steps(after, fill);
-    case_show::words(b" words", &words, fill);
-    case_show::numbers(b" store", &store, fill);
+    reply::decoded(rt, answer)?;
+    case_show::steps(rt, after, fill)?;
+    case_show::words(rt, b" words", &words, fill)?;
+    case_show::numbers(rt, b" store", &store, fill)
 }
 
 // 6: the book, the direction, and the wish.
-pub fn decode(text: &[u8], at: usize) {
+pub fn decode(rt: &impl Print, text: &[u8], at: usize) -> io::Result<()> {
     let mut book = [0i32; 140000];
     let mut direction = [0u16; 128];
     let row = line::book(text, at, &mut book);
     let n = row.count;
     let words = line::direction(text, row.end, &mut direction);
     let m = words.count;
-    decode_with(&book[..n], &direction[..m], wish_of(text, words.end));
+    decode_with(rt, &book[..n], &direction[..m], wish_of(text, words.end))
 }
 
 // 8: the bytes of a book's text and of a direction's, and the number that the first place of what is printed holds.
-pub fn render(text: &[u8], at: usize) {
+pub fn render(rt: &impl Print, text: &[u8], at: usize) -> io::Result<()> {
     let mut book = [0u8; 8193];
     let mut direction = [0u8; 513];
     let row = line::bytes(text, at, &mut book);
@@ -112,6 +113,6 @@ pub fn render(text: &[u8], at: usize) {
     let mut out = [0u8; 4096];
     case_fill::bytes(&mut out, fill);
     let count = rendering::render(&book[..n], &direction[..m], &mut out);
-    say::count(count);
-    case_show::out(&out, fill);
+    say::count(rt, count)?;
+    case_show::out(rt, &out, fill)
 }

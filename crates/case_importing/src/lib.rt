@@ -4,9 +4,10 @@
 
 use case_line::line;
 use case_reply::reply;
+use std::io;
 
 // The ARPA text's bytes, the word list's, the list that is lent, how many of its numbers are in use, and the number that the array's first place would hold.
-pub fn import_arpa(text: &[u8], at: usize) {
+pub fn import_arpa(rt: &impl Print, text: &[u8], at: usize) -> io::Result<()> {
     let mut arpa = [0u8; 120000];
     let mut spelling = [0u8; 120000];
     let mut lent = [0i32; 41000];
@@ -27,6 +28,6 @@ pub fn import_arpa(text: &[u8], at: usize) {
         &mut list[..n],
         used.size as usize,
     );
-    reply::read(answer);
-    case_show::book(&list, &lent[..n], word);
+    reply::read(rt, answer)?;
+    case_show::book(rt, &list, &lent[..n], word)
 }

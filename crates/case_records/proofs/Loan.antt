@@ -5,7 +5,7 @@ use mathlib.Core.List.{[], ◌∷◌, List, map, ◌++◌}
 use lib.Dec.{lit<}
 use lib.ListN.{length, take, drop as drop-list}
 use seplogic.Ra.Ura.{Ura}
-use seplogic.Ra.TreeShare.{full_share}
+use base.Fraction.{full_share}
 use mir.Syntax.{named}
 use mir.Val.{Val}
 use base.Logic.{ent, ex, guard, sep}

@@ -4,9 +4,10 @@
 
 use case_line::line;
 use case_reply::reply;
+use std::io;
 
 // 9: the list that is lent, how many of its numbers are in use, the numbers of the line, and the number that the array's first place would hold.
-pub fn add_entry(text: &[u8], at: usize) {
+pub fn add_entry(rt: &impl Print, text: &[u8], at: usize) -> io::Result<()> {
     let mut lent = [0i32; 41000];
     let mut numbers = [0i32; 41000];
     let row = line::book(text, at, &mut lent);
@@ -19,12 +20,12 @@ pub fn add_entry(text: &[u8], at: usize) {
     let mut list = case_fill::book(word);
     moves::put_front(&mut list, &lent[..n]);
     let answer = revising::add_entry(&mut list[..n], used.size as usize, &numbers[..k]);
-    reply::read(answer);
-    case_show::book(&list, &lent[..n], word);
+    reply::read(rt, answer)?;
+    case_show::book(rt, &list, &lent[..n], word)
 }
 
 // 10: the same with the entry to remove.
-pub fn remove_entry(text: &[u8], at: usize) {
+pub fn remove_entry(rt: &impl Print, text: &[u8], at: usize) -> io::Result<()> {
     let mut lent = [0i32; 41000];
     let row = line::book(text, at, &mut lent);
     let n = row.count;
@@ -35,6 +36,6 @@ pub fn remove_entry(text: &[u8], at: usize) {
     let mut list = case_fill::book(word);
     moves::put_front(&mut list, &lent[..n]);
     let answer = revising::remove_entry(&mut list[..n], used.size as usize, entry.size as usize);
-    reply::read(answer);
-    case_show::book(&list, &lent[..n], word);
+    reply::read(rt, answer)?;
+    case_show::book(rt, &list, &lent[..n], word)
 }

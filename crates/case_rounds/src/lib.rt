@@ -9,6 +9,7 @@ use case_records::rounding;
 use case_records::rounding::{AskedRound, Asking};
 use case_reply::reply;
 use meaning::{Checked, Step};
+use std::io;
 
 // A list of ends: how many, and each.
 pub fn take_ends(text: &[u8], at: usize, list: &mut [usize]) -> Row
@@ -131,6 +132,7 @@ fn ask_records(
 
 // The round with steps as numbers: what is replied, and the steps.
 fn with_numbers(
+    rt: &impl Print,
     book: &[i32],
     directions: &[u16],
     ends: &[usize],
@@ -138,18 +140,22 @@ fn with_numbers(
     words: &mut [u16],
     store: &mut [i64],
     answers: &mut [i64],
-) {
+) -> io::Result<()> {
     let fill = wish.fill;
     let mut steps = [0u16; 6400];
     case_fill::words(&mut steps, fill);
-    reply::checked(ask(
-        book, directions, ends, wish, &mut steps, words, store, answers,
-    ));
-    case_show::words(b" steps", &steps, fill);
+    reply::checked(
+        rt,
+        ask(
+            book, directions, ends, wish, &mut steps, words, store, answers,
+        ),
+    )?;
+    case_show::words(rt, b" steps", &steps, fill)
 }
 
 // The same with step records.
 fn with_records(
+    rt: &impl Print,
     book: &[i32],
     directions: &[u16],
     ends: &[usize],
@@ -157,18 +163,19 @@ fn with_records(
     words: &mut [u16],
     store: &mut [i64],
     answers: &mut [i64],
-) {
+) -> io::Result<()> {
     let fill = wish.fill;
     let steps = case_fill::steps(fill);
     let asked = ask_records(book, directions, ends, wish, steps, words, store, answers);
     let answer = asked.reply;
     let after = asked.steps;
-    reply::checked(answer);
-    case_show::steps(after, fill);
+    reply::checked(rt, answer)?;
+    case_show::steps(rt, after, fill)
 }
 
 // The round with the one or the other.
 fn with_either(
+    rt: &impl Print,
     book: &[i32],
     directions: &[u16],
     ends: &[usize],
@@ -177,16 +184,23 @@ fn with_either(
     words: &mut [u16],
     store: &mut [i64],
     answers: &mut [i64],
-) {
+) -> io::Result<()> {
     if records {
-        with_records(book, directions, ends, wish, words, store, answers);
+        with_records(rt, book, directions, ends, wish, words, store, answers)
     } else {
-        with_numbers(book, directions, ends, wish, words, store, answers);
+        with_numbers(rt, book, directions, ends, wish, words, store, answers)
     }
 }
 
 // The round, in lists that are full of garbage.
-fn decode_with(book: &[i32], directions: &[u16], ends: &[usize], wish: Wish, records: bool) {
+fn decode_with(
+    rt: &impl Print,
+    book: &[i32],
+    directions: &[u16],
+    ends: &[usize],
+    wish: Wish,
+    records: bool,
+) -> io::Result<()> {
     let fill = wish.fill;
     let mut words = [0u16; 16700];
     let mut store = [0i64; 33000];
@@ -195,6 +209,7 @@ fn decode_with(book: &[i32], directions: &[u16], ends: &[usize], wish: Wish, rec
     case_fill::numbers(&mut store, fill);
     case_fill::numbers(&mut answers, fill);
     with_either(
+        rt,
         book,
         directions,
         ends,
@@ -203,14 +218,14 @@ fn decode_with(book: &[i32], directions: &[u16], ends: &[usize], wish: Wish, rec
         &mut words,
         &mut store,
         &mut answers,
-    );
-    case_show::words(b" words", &words, fill);
-    case_show::numbers(b" store", &store, fill);
-    case_show::numbers(b" answers", &answers, fill);
+    )?;
+    case_show::words(rt, b" words", &words, fill)?;
+    case_show::numbers(rt, b" store", &store, fill)?;
+    case_show::numbers(rt, b" answers", &answers, fill)
 }
 
 // 12, and 13 with step records: the book, the directions, their ends, and the wish.
-pub fn decode_round(text: &[u8], at: usize, records: bool) {
+pub fn decode_round(rt: &impl Print, text: &[u8], at: usize, records: bool) -> io::Result<()> {
     let mut book = [0i32; 140000];
     let mut directions = [0u16; 2600];
     let mut ends = [0usize; 70];
@@ -221,10 +236,11 @@ pub fn decode_round(text: &[u8], at: usize, records: bool) {
     let marks = take_ends(text, words.end, &mut ends);
     let k = marks.count;
     decode_with(
+        rt,
         &book[..n],
         &directions[..m],
         &ends[..k],
         wish_of(text, marks.end, false),
         records,
-    );
+    )
 }

@@ -7,6 +7,7 @@ use case_records::rounding::Asking;
 use case_reply::{reply, say};
 use case_rounds::Wish;
 use meaning::Read;
+use std::io;
 
 // The reply, with as many places of each list lent as are wished for and are there.
 fn ask(
@@ -40,6 +41,7 @@ fn ask(
 
 // The sheet with steps as numbers: what is replied, and the steps.
 fn with_numbers(
+    rt: &impl Print,
     book: &[i32],
     directions: &[u16],
     ends: &[usize],
@@ -48,18 +50,22 @@ fn with_numbers(
     store: &mut [i64],
     answers: &mut [i64],
     sheet: &mut [u8],
-) {
+) -> io::Result<()> {
     let fill = wish.fill;
     let mut steps = [0u16; 6400];
     case_fill::words(&mut steps, fill);
-    reply::read(ask(
-        book, directions, ends, wish, &mut steps, words, store, answers, sheet,
-    ));
-    case_show::words(b" steps", &steps, fill);
+    reply::read(
+        rt,
+        ask(
+            book, directions, ends, wish, &mut steps, words, store, answers, sheet,
+        ),
+    )?;
+    case_show::words(rt, b" steps", &steps, fill)
 }
 
 // The same with step records.
 fn with_records(
+    rt: &impl Print,
     book: &[i32],
     directions: &[u16],
     ends: &[usize],
@@ -68,7 +74,7 @@ fn with_records(
     store: &mut [i64],
     answers: &mut [i64],
     sheet: &mut [u8],
-) {
+) -> io::Result<()> {
     let fill = wish.fill;
     let steps = case_fill::steps(fill);
     let room = line::at_most(wish.steps, 1100);
@@ -93,8 +99,8 @@ fn with_records(
     );
     let answer = asked.reply;
     let after = asked.steps;
-    reply::read(answer);
-    case_show::steps(after, fill);
+    reply::read(rt, answer)?;
+    case_show::steps(rt, after, fill)
 }
 
 // What is asked: the wish, of a sheet with step records or without.
@@ -106,6 +112,7 @@ struct Call {
 
 // The sheet with the one or the other.
 fn with_either(
+    rt: &impl Print,
     book: &[i32],
     directions: &[u16],
     ends: &[usize],
@@ -114,17 +121,27 @@ fn with_either(
     store: &mut [i64],
     answers: &mut [i64],
     sheet: &mut [u8],
-) {
+) -> io::Result<()> {
     let wish = call.wish;
     if call.records {
-        with_records(book, directions, ends, wish, words, store, answers, sheet);
+        with_records(
+            rt, book, directions, ends, wish, words, store, answers, sheet,
+        )
     } else {
-        with_numbers(book, directions, ends, wish, words, store, answers, sheet);
+        with_numbers(
+            rt, book, directions, ends, wish, words, store, answers, sheet,
+        )
     }
 }
 
 // The sheet, in lists that are full of garbage.
-fn sheet_with(book: &[i32], directions: &[u16], ends: &[usize], call: Call) {
+fn sheet_with(
+    rt: &impl Print,
+    book: &[i32],
+    directions: &[u16],
+    ends: &[usize],
+    call: Call,
+) -> io::Result<()> {
     let fill = call.wish.fill;
     let mut words = [0u16; 16700];
     let mut store = [0i64; 33000];
@@ -135,6 +152,7 @@ fn sheet_with(book: &[i32], directions: &[u16], ends: &[usize], call: Call) {
     case_fill::numbers(&mut answers, fill);
     case_fill::bytes(&mut sheet, fill);
     with_either(
+        rt,
         book,
         directions,
         ends,
@@ -143,15 +161,15 @@ fn sheet_with(book: &[i32], directions: &[u16], ends: &[usize], call: Call) {
         &mut store,
         &mut answers,
         &mut sheet,
-    );
-    case_show::words(b" words", &words, fill);
-    case_show::numbers(b" store", &store, fill);
-    case_show::numbers(b" answers", &answers, fill);
-    case_show::bytes(b" sheet", &sheet, fill);
+    )?;
+    case_show::words(rt, b" words", &words, fill)?;
+    case_show::numbers(rt, b" store", &store, fill)?;
+    case_show::numbers(rt, b" answers", &answers, fill)?;
+    case_show::bytes(rt, b" sheet", &sheet, fill)
 }
 
 // 14, and 15 with step records: the book, the directions, their ends, and the wish.
-pub fn round_sheet(text: &[u8], at: usize, records: bool) {
+pub fn round_sheet(rt: &impl Print, text: &[u8], at: usize, records: bool) -> io::Result<()> {
     let mut book = [0i32; 140000];
     let mut directions = [0u16; 2600];
     let mut ends = [0usize; 70];
@@ -163,20 +181,21 @@ pub fn round_sheet(text: &[u8], at: usize, records: bool) {
     let k = marks.count;
     let wish = case_rounds::wish_of(text, marks.end, true);
     sheet_with(
+        rt,
         &book[..n],
         &directions[..m],
         &ends[..k],
         Call { wish, records },
-    );
+    )
 }
 
 // What is printed.
-fn show(out: &[u8; 2048], fill: u16) {
-    case_show::bytes(b" out", out, fill);
+fn show(rt: &impl Print, out: &[u8; 2048], fill: u16) -> io::Result<()> {
+    case_show::bytes(rt, b" out", out, fill)
 }
 
 // 16: the bytes of a book's text and of standard input, and the number that the first place of what is printed holds.
-pub fn print_round(text: &[u8], at: usize) {
+pub fn print_round(rt: &impl Print, text: &[u8], at: usize) -> io::Result<()> {
     let mut book = [0u8; 8193];
     let mut input = [0u8; 32769];
     let row = line::bytes(text, at, &mut book);
@@ -187,6 +206,6 @@ pub fn print_round(text: &[u8], at: usize) {
     let mut out = [0u8; 2048];
     case_fill::bytes(&mut out, fill);
     let count = round_program::print_round(&book[..n], &input[..m], &mut out);
-    say::count(count);
-    show(&out, fill);
+    say::count(rt, count)?;
+    show(rt, &out, fill)
 }

@@ -1,6 +1,8 @@
 // Document 01's rendering program, on the document's own example.
 #![tactic(auto)]
 
-fn main() {
-    render_run::run();
+use std::io;
+
+fn main(rt: HostRuntime) -> io::Result<()> {
+    render_run::run(&rt)
 }

@@ -1,6 +1,8 @@
 // The program `round` of ticket 8, on a round of four directions.
 #![tactic(auto)]
 
-fn main() {
-    round_run::run();
+use std::io;
+
+fn main(rt: HostRuntime) -> io::Result<()> {
+    round_run::run(&rt)
 }

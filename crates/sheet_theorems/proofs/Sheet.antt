@@ -124,10 +124,12 @@ count_lines number [] answer = refl
 count_lines number (row ∷ rows) answer = by_test (eqb row.answer answer) (λ t. rw (t, count_lines (suc number) rows answer)) (λ f. rw f (count_lines (suc number) rows answer))
 
 pub mem_map : {A B : Type 0} (f : A → B) (xs : List A) {y : B} → Memᴰ y (map f xs) → (x : A) × Memᴰ x xs × (f x ≡ y)
+mem_map f [] m = elim m [ ]
 mem_map f (x ∷ xs) (Memᴰ.head e) = (x, Memᴰ.head refl, sym e)
 mem_map f (x ∷ xs) (Memᴰ.tail m) = let r = mem_map f xs m in (r.0, Memᴰ.tail r.1, r.2)
 
 map_mem : {A B : Type 0} (f : A → B) (xs : List A) {x : A} → Memᴰ x xs → Memᴰ (f x) (map f xs)
+map_mem f [] m = elim m [ ]
 map_mem f (y ∷ xs) (Memᴰ.head e) = Memᴰ.head (ap f e)
 map_mem f (y ∷ xs) (Memᴰ.tail m) = Memᴰ.tail (map_mem f xs m)
 
@@ -145,12 +147,14 @@ is_counted rows answer = ltb 0 (count_of rows answer)
 
 -- no row is above the largest
 largest_above : (rows : List Row) (row : Row) → Memᴰ row rows → row.answer ≤ largest rows
+largest_above [] row m = elim m [ ]
 largest_above (first ∷ rows) row (Memᴰ.head e) = let a = ap (λ (r : Row). r.answer) e in omega arith
 largest_above (first ∷ rows) row (Memᴰ.tail m) = let h = largest_above rows row m in omega arith
 
 -- a row with an answer is counted, and where one is counted there is such a row
 row_counts : (rows : List Row) (row : Row) → Memᴰ row rows → 0 < count_of rows row.answer
 unfolding count_of
+row_counts [] row m = elim m [ ]
 row_counts (first ∷ rows) row (Memᴰ.head e) = let t = eq-eqb first.answer row.answer (ap (λ (r : Row). r.answer) (sym e)) in rw t (omega arith)
 row_counts (first ∷ rows) row (Memᴰ.tail m) =
     let h = row_counts rows row m in by_test (eqb first.answer row.answer) (λ t. rw t (omega arith)) (λ f. rw f h)

@@ -24,59 +24,62 @@
 
 use case_line::{input, line};
 use case_reply::say;
+use std::io;
 
 // The call of that number.
-fn call(text: &[u8], at: usize, number: u64) {
+fn call(rt: &impl Print, text: &[u8], at: usize, number: u64) -> io::Result<()> {
     match number {
-        1 => case_reading::read_book(text, at),
-        2 => case_reading::read_direction(text, at),
-        3 => case_reading::check_book(text, at),
-        4 => case_reading::target_words(text, at),
-        5 => case_decoding::score(text, at),
-        6 => case_decoding::decode(text, at),
-        7 => case_reading::check_direction(text, at),
-        8 => case_decoding::render(text, at),
-        9 => case_revising::add_entry(text, at),
-        10 => case_revising::remove_entry(text, at),
-        11 => case_importing::import_arpa(text, at),
-        12 => case_rounds::decode_round(text, at, false),
-        13 => case_rounds::decode_round(text, at, true),
-        14 => case_sheets::round_sheet(text, at, false),
-        15 => case_sheets::round_sheet(text, at, true),
-        16 => case_sheets::print_round(text, at),
-        _ => say::word(b"no such call"),
+        1 => case_reading::read_book(rt, text, at),
+        2 => case_reading::read_direction(rt, text, at),
+        3 => case_reading::check_book(rt, text, at),
+        4 => case_reading::target_words(rt, text, at),
+        5 => case_decoding::score(rt, text, at),
+        6 => case_decoding::decode(rt, text, at),
+        7 => case_reading::check_direction(rt, text, at),
+        8 => case_decoding::render(rt, text, at),
+        9 => case_revising::add_entry(rt, text, at),
+        10 => case_revising::remove_entry(rt, text, at),
+        11 => case_importing::import_arpa(rt, text, at),
+        12 => case_rounds::decode_round(rt, text, at, false),
+        13 => case_rounds::decode_round(rt, text, at, true),
+        14 => case_sheets::round_sheet(rt, text, at, false),
+        15 => case_sheets::round_sheet(rt, text, at, true),
+        16 => case_sheets::print_round(rt, text, at),
+        _ => say::word(rt, b"no such call"),
     }
 }
 
 // One line: the label, the bar, the call's number, and what the call is asked.
-fn case(text: &[u8]) {
+fn case(rt: &impl Print, text: &[u8]) -> io::Result<()> {
     let bar = line::find(text, 0, b'|');
     if bar < text.len() {
-        say::begin(&text[..bar]);
+        say::begin(rt, &text[..bar])?;
         let number = line::take_number(text, bar + 1);
-        call(text, number.end, number.size);
-        say::word(b"\n");
+        call(rt, text, number.end, number.size)?;
+        say::word(rt, b"\n")?;
     }
+    Ok(())
 }
 
 // The next line; false where there is none. A last one that is cut off is not run.
-fn turn() -> bool {
+fn turn(rt: &(impl Input + Print)) -> io::Result<bool> {
     let mut text = [0u8; 200000];
-    let line = input::take_line(&mut text);
+    let line = input::take_line(rt, &mut text);
     let n = line.count;
     if line.whole {
-        case(&text[..n]);
+        case(rt, &text[..n])?;
     }
-    line.whole
+    Ok(line.whole)
 }
 
 // The lines in turn. Nothing says that an input ends, so they are counted.
-fn main() {
+fn main(rt: HostRuntime) -> io::Result<()> {
     let mut lines: usize = 0;
     while lines < 1000000 {
-        if !turn() {
-            return;
+        if !turn(&rt)? {
+            return Ok(());
         }
         lines += 1;
     }
+    Ok(())
 }
