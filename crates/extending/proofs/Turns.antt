@@ -73,7 +73,7 @@ module _ {loaded : List ℤ} {direction : List ℕ} {index : List ℕ} {beam : B
   step = step_at book first k
 
   fit : fits book direction step ≡ true
-  fit = listed_fits book direction step (subst (λ (s : Step). Memᴰ s (fitting_steps book direction)) T.option_is (get_d_mem (fitting_steps book direction) o no_step T.option_in_lem))
+  fit = listed_fits book direction step (subst (λ (s : Step). Memᴰ s (fitting_steps book direction)) T.option_is (get_d_mem (fitting_steps book direction) o no_step T.option_in))
 
   facts : Fits book direction step
   facts = fits_facts book direction step fit
@@ -99,7 +99,7 @@ module _ {loaded : List ℤ} {direction : List ℕ} {index : List ℕ} {beam : B
 
   -- the run is too short: nothing is added
   pub turn_skips : {st : List ℤ} {count : ℕ} → Growing book direction beam.width x.size j o st count → run < p.long → Growing book direction beam.width x.size j (o + 1) st count
-  turn_skips G h = skipped book direction beam.width T.spot_of.chosen T.option_in_lem G (may_is false (lt-leb p.long run h))
+  turn_skips G h = skipped book direction beam.width T.spot_of.chosen T.option_in G (may_is false (lt-leb p.long run h))
 
   module _ (h : p.long ≤ run) where
     free : is_free step 1 (key_of n x.state).covered ≡ true
@@ -123,7 +123,7 @@ module _ {loaded : List ℤ} {direction : List ℕ} {index : List ℕ} {beam : B
         → (r : Grown) → Grows st st' count y r → Grew book direction beam.width x.size j (o + 1) st' r
     turn_grows y e {st} {st'} {count} G r g =
         rw g.is (by g.answer
-        (went book direction beam.width T.spot_of.chosen T.option_in_lem G (may_is true (le-leb p.long run h)) (subst (NextPlace book direction x j o) (sym e) turn_next) st' g.answer g.added g.index))
+        (went book direction beam.width T.spot_of.chosen T.option_in G (may_is true (le-leb p.long run h)) (subst (NextPlace book direction x j o) (sym e) turn_next) st' g.answer g.added g.index))
       where
         by : (a : Added) → After book direction beam.width x.size j (o + 1) st' count a → Grew book direction beam.width x.size j (o + 1) st' (grown_by count a)
         by Replaced u = u
@@ -135,7 +135,7 @@ module _ {loaded : List ℤ} {direction : List ℕ} {index : List ℕ} {beam : B
     turn_storable y e = subst Storable (sym e) (next_storable book direction beam.width turn_next T.spot_of.place_small)
 
     pub turn_leads : (y : Place) → y ≡ next_place index beam.setup p (entry_at book k) turn → {st : List ℤ} {count : ℕ} → Growing book direction beam.width x.size j o st count → Leading st count y
-    turn_leads y e G = leads book direction beam.width T.spot_of.chosen T.option_in_lem G (may_is true (le-leb p.long run h)) (subst (NextPlace book direction x j o) (sym e) turn_next)
+    turn_leads y e G = leads book direction beam.width T.spot_of.chosen T.option_in G (may_is true (le-leb p.long run h)) (subst (NextPlace book direction x j o) (sym e) turn_next)
 
 -- several options that may not extend the state
 module _ (bk : Book) (direction : List ℕ) (width : ℤ) (i j : ℕ) (x : Place) (A : Chosen bk direction width i j x) (from : ℕ) (st : List ℤ) (count : ℕ) where
@@ -216,7 +216,7 @@ module _ {loaded : List ℤ} {direction : List ℕ} {index : List ℕ} {options 
         prepared = R.prepared;
         spot_of = S;
         near = near;
-        option_in_lem = omega arith;
+        option_in = omega arith;
         option_is = each o a b;
         entry_from = q.0;
         entry_to = (let z = q.1 in omega arith);

@@ -83,7 +83,7 @@ pub record TurnOf (loaded : List ℤ) (direction : List ℕ) (index : List ℕ) 
   pub prepared : Prepared loaded direction index beam.setup
   pub spot_of : SpotOf loaded direction beam turn.spot
   pub near : jump_from turn.spot.source.place.state.r turn.spot.first ≤ beam.setup.limit
-  pub option_in_lem : turn.option < length (fitting_steps (book_of loaded) direction)
+  pub option_in : turn.option < length (fitting_steps (book_of loaded) direction)
   pub option_is : option_at (book_of loaded) direction turn.option ≡ step_at (book_of loaded) turn.spot.first turn.entry
   pub entry_from : 1 ≤ turn.entry
   pub entry_to : turn.entry ≤ beam.setup.phrases
