@@ -1,0 +1,21 @@
+-- What the walk over the steps answers is the reply; where it is a score, each step has an entry of the book, and the words are judged.
+use mathlib.Core.Path.{◌≡◌}
+use Rattle.laws.proofs.Got.{i64}
+use Rattle.meaning.specs.Book.{book_of}
+use Rattle.proposal.proofs.Numbers.{entries_in, said, said_passes, totalled, turned_down}
+use borrow.Author.Rules.{rules}
+use Rattle.proposal.proofs.score_steps.Goals as goal
+
+pub judge_steps-supplied-requires-clause-by_index : goal.judge_steps-supplied-requires-clause-by_index
+judge_steps-supplied-requires-clause-by_index c = let e = said (book_of c.args.book.now) c.args.direction.now c.args.plain (rw c.in-Score.is at c.sum_steps.ensures) in
+    entries_in c.requires.prepared.entries_at c.args.direction.now c.args.plain (said_passes (book_of c.args.book.now) c.args.direction.now c.args.plain _ e)
+
+pub returns-in-Score : goal.returns-in-Score
+returns-in-Score c =
+    let back : i64 c.in-Score.score ≡ c.in-Score.score = search rules in
+    totalled (book_of c.args.book.now) c.args.direction.now c.args.plain back c.judge_steps-supplied.ensures
+    (said (book_of c.args.book.now) c.args.direction.now c.args.plain (rw c.in-Score.is at c.sum_steps.ensures))
+
+pub returns-in-Refused : goal.returns-in-Refused
+returns-in-Refused c = turned_down (book_of c.args.book.now) c.args.direction.now c.args.plain c.in-Refused.refusal
+    (said (book_of c.args.book.now) c.args.direction.now c.args.plain (rw c.in-Refused.is at c.sum_steps.ensures))
