@@ -1,8 +1,8 @@
 -- The questions of an import behind 23, and what the longer book has, as code has them.
-use Rattle.std.specs.Prelude.{ℕ, ◌+◌, ◌-◌, ◌*◌, ◌≤◌, ◌≡◌, true, cond, List, ◌++◌, ℤ, pos, length, get_or, set}
+use Rattle.std.specs.Prelude.{ℕ, ◌+◌, ◌-◌, ◌*◌, ◌≤◌, ◌≡◌, true, cond, List, ◌++◌, ℤ, length, get_or}
 use Rattle.laws.specs.Lists.{count, concat}
 use Rattle.meaning.specs.Questions.{number, ◌unless◌, ◌orelse◌}
-use Rattle.meaning.specs.Book.{in_list, grams_most, number_at, is_t, is_counted, lines_refusal, loaded_lines, book_refusal, loaded_book}
+use Rattle.meaning.specs.Book.{in_list, grams_most, is_t, is_counted, lines_refusal, loaded_lines, book_refusal, loaded_book}
 use Rattle.meaning.specs.declared.Checked.{Checked}
 use Rattle.arpa.specs.File.{ngrams_of, is_arpa}
 use Rattle.arpa.specs.Import.{unseen_by, unknown_of, imported_lines, longer_lines, are_known, are_scores}
