@@ -16,7 +16,7 @@ use Rattle.laws.proofs.Lists.{get_d_mem}
 use Rattle.meaning.specs.Book.{Book}
 use Rattle.meaning.specs.Direction.{word_count}
 use Rattle.meaning.specs.Derivation.{no_step, fits}
-use Rattle.meaning.specs.State.{Key, Hyp, start, words_covered, is_better}
+use Rattle.meaning.specs.State.{Key, Hyp, start, words_covered, is_better, next_key}
 use Rattle.meaning.specs.Search.{search, answer, entered}
 use Rattle.meaning.specs.declared.Step.{Step}
 use Rattle.meaning.specs.declared.Refusal.TheVariants.{StoreTooSmall}
@@ -38,7 +38,7 @@ module _ (book : Book) (direction : List ℕ) (width : ℤ) {st : List ℤ} {cou
   steps_fit : (key : Key) (steps : List Step) → Allowed (search book direction width) key steps → (i : ℕ) → i < length steps → fits book direction (get_or steps i no_step) ≡ true
   steps_fit key [] a i h = absurd (omega arith)
   steps_fit key (step ∷ steps) a zero h = may_fits book direction key step a.1
-  steps_fit key (step ∷ steps) a (suc i) h = steps_fit _ steps a.2 i (omega arith)
+  steps_fit key (step ∷ steps) a (suc i) h = steps_fit (next_key book key step) steps a.2 i (omega arith)
 
   -- the place k holds a state of the search
   pub last_ends : (k : ℕ) → k < count → Ends book direction st k (get_or (entered book direction width) k nobody)
