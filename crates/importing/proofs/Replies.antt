@@ -8,7 +8,7 @@ use borrow.Author.Tests.{le-leb, lt-leb}
 use lib.Dec.{leb}
 use lib.IntN.{ℤ, pos}
 use lib.ListN.{length, take, drop, get_or-append}
-use Rattle.laws.specs.Lists.{count, concat}
+use Rattle.laws.specs.Lists.{concat}
 use Rattle.meaning.specs.Questions.{◌unless◌, ◌orelse◌, number}
 use Rattle.meaning.specs.Book.{number_at, book_refusal}
 use Rattle.meaning.specs.Reply.{refused, done, written_over}
