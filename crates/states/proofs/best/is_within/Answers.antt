@@ -13,13 +13,10 @@ use Rattle.laws.proofs.Got.{Got, i64, leaf, sub, kept}
 use Rattle.meaning.specs.State.{spread_bound}
 use Rattle.states.proofs.Answer.{within_on}
 use Rattle.states.proofs.best.is_within.Goals as goal
-use Rattle.states.proofs.best.is_within.Goals.{After-struct_told-1}
-
-less : (c : After-struct_told-1) → Got spread_bound (i64 c.args.top -ℤ i64 c.args.x.score) (c.args.top -ℤ c.args.x.score)
-less c = sub (leaf c.ranges.top c.requires.0) (leaf (within_fits w64 c.requires.1 (omega arith)) c.requires.1)
 
 pub returns-else-width-eqminus1 : goal.returns-else-width-eqminus1
 returns-else-width-eqminus1 c =
     let e : eqℤ c.args.width (negsuc 0) ≡ false = omega (arith, signed, ne_out (bits_ne w64 c.args.width (negsuc 0) c.if-width-eqminus1.false)) in
-    ap (λ (z : ℤ). le_z z (i64 c.args.width)) (kept w64 (less (goal.at.returns-else-width-eqminus1 c).After-struct_told-1) (omega arith)).is ∙ ap (le_z (c.args.top -ℤ c.args.x.score)) (to_z-of_z c.ranges.width)
+    let less : Got spread_bound (i64 c.args.top -ℤ i64 c.args.x.score) (c.args.top -ℤ c.args.x.score) = sub (leaf c.ranges.top c.requires.0) (leaf (within_fits w64 c.requires.1 (omega arith)) c.requires.1) in
+    ap (λ (z : ℤ). le_z z (i64 c.args.width)) (kept w64 less (omega arith)).is ∙ ap (le_z (c.args.top -ℤ c.args.x.score)) (to_z-of_z c.ranges.width)
     ∙ within_on c.args.width c.args.top c.args.x.score e
