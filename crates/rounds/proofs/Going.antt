@@ -8,7 +8,7 @@ use lib.IntN.{ℤ, pos}
 use lib.ListN.{length, get_or, take, drop, replicate, length-replicate}
 use Rattle.meaning.specs.Book.{book_of}
 use Rattle.meaning.specs.Search.{answer}
-use Rattle.meaning.specs.Reply.{Reply, refused, done, reply, written_over, written_if, Lent, decoded_reply, before_search, decode_refusal, answer_steps, decode, cleared_if, decoded_words, decoded_store}
+use Rattle.meaning.specs.Reply.{Reply, refused, done, written_over, written_if, Lent, decoded_reply, before_search, decode_refusal, answer_steps, decode, cleared_if, decoded_words, decoded_store}
 use Rattle.meaning.specs.Round.{directions_of, alone, answer_numbers, by_parts, store_after}
 use Rattle.meaning.specs.declared.Answer.{Answer}
 use Rattle.meaning.specs.declared.Step.{Step}

@@ -9,7 +9,6 @@ use lib.Dec.{leb}
 use lib.IntN.{ℤ}
 use lib.ListN.{length, get_or, take, drop, length-drop}
 use lib.Seq.{length-take-le}
-use Rattle.laws.specs.Lists.{all}
 use Rattle.laws.proofs.Lists.{all_at}
 use Rattle.laws.proofs.Tests.{both, between}
 use Rattle.meaning.specs.Questions.{◌unless◌, ◌orelse◌, within, number}
