@@ -18,7 +18,7 @@ pub struct Setup {
     pub model: LanguageModel,
 }
 
-// A row of target words: the sum of the scores of the triples that they end, within wordsBound, and the last two words.
+// A row of target words: the sum of the scores of the triples that they end, within words_bound, and the last two words.
 #[derive(Clone, Copy)]
 pub struct Row {
     pub score: i32,

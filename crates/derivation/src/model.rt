@@ -8,7 +8,7 @@ ghost use Rattle.derivation.specs.Model.{Model, word_in, empty_row, with_word, w
 use crate::{Phrase, Row, Setup};
 
 // One target word more: the score of the triple that it ends comes to the sum. A phrase has up to eight target words, so there is room for one triple's
-// score below wordsBound, 24,000,000, and 32 bits hold the sum. (g and eta × jump are no part of it; `step::gain` adds them, in 64 bits.)
+// score below words_bound, 24,000,000, and 32 bits hold the sum. (g and eta × jump are no part of it; `step::gain` adds them, in 64 bits.)
 fn add_word(index: &[u16], t: Setup, s: Row, y: u16) -> Row
     requires model { Model index.now t }
     requires within { Within (words_bound - triple_bound) s.score }
@@ -23,7 +23,7 @@ fn add_word(index: &[u16], t: Setup, s: Row, y: u16) -> Row
         y as usize,
     );
     Row {
-        // within wordsBound
+        // within words_bound
         score: sum + triple as i32,
         word1: s.word2,
         word2: y,

@@ -21,7 +21,7 @@ pub fn jump(r: usize, first: usize) -> usize
     }
 }
 
-// What a step adds to a score: the entry's, the penalty of its jump, and what its target words say, a sum within wordsBound.
+// What a step adds to a score: the entry's, the penalty of its jump, and what its target words say, a sum within words_bound.
 fn gain(t: Setup, p: Phrase, far: usize, row: Row) -> i64
     requires { (Within penalty_most t.eta) × ((Within score_most p.g) × ((far ≤ 32) × (Within words_bound row.score))) }
     ensures { (result ≡ gain_by t p far row) × Within gain_bound result }
