@@ -1,0 +1,12 @@
+-- The numbers then in use or the refusal, as a signed number.
+use native.Mathlib.Omega.{arith}
+use mathlib.Core.Path.{ap, ◌∙◌}
+use mir.Syntax.{w64}
+use Rattle.laws.proofs.Integers.{back}
+use Rattle.ffi.specs.Calls.{count_or_refusal}
+use Rattle.ffi.proofs.Codes.{imported_counted}
+use borrow.Author.Rules.{rules}
+use Rattle.ffi.proofs.phrase_import_arpa.Goals as goal
+
+pub count_or_refusal-requires : goal.count_or_refusal-requires
+count_or_refusal-requires c = let a = c.args in imported_counted a.arpa.now a.spelling.now a.book.now a.used c.import_arpa-reply.result c.import_arpa-reply.ensures.result_value (omega arith)
