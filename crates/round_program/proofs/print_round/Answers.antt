@@ -1,0 +1,64 @@
+-- The two lengths, then the book, then the text: each refusal is put, and what follows a book that was read is the text's.
+use Prim.Native.Nat.{◌≤◌}
+use mathlib.Core.Path.{◌≡◌, sym, ◌∙◌}
+use mathlib.Core.Bool.{true, ◌&&◌}
+use native.Mathlib.Omega.{arith}
+use lib.Dec.{leb}
+use lib.ListN.{length}
+use lib.Seq.{length-take-le}
+use Rattle.meaning.specs.Book.{loaded_of, read_refusal}
+use Rattle.meaning.specs.declared.Refusal.TheVariants.{ListTooShort}
+use Rattle.decimals.proofs.Laws.{put_is, put_over}
+use Rattle.printing.proofs.Lengths.{refusal_short}
+use Rattle.rendering.proofs.Inputs.{Filled, book_filled, book_refusal_lem}
+use Rattle.round_program.proofs.Inputs.{read_book_passes, too_long, book_refused, book_read}
+use borrow.Author.Rules.{rules}
+use Rattle.round_program.proofs.print_round.Goals as goal
+use Rattle.round_program.proofs.print_round.Goals.{Else-not-are_short, In-Numbers}
+
+-- the test has passed
+was_short : (c : Else-not-are_short) → leb (length c.args.book.now) 8_192 && leb (length c.args.text.now) 32_768 ≡ true
+was_short c = sym c.are_short.ensures ∙ c.if-not-are_short.false
+
+-- the book that was read
+book_was_read : (c : In-Numbers) → Filled (read_refusal c.args.book.now 8_192) c.in-Numbers.n (loaded_of c.args.book.now) c.read_book.new.book
+book_was_read c = book_filled _ _ _ _ _ c.in-Numbers.is c.read_book.ensures.result_value c.read_book.ensures.book_after
+
+pub put_refusal-requires : goal.put_refusal-requires
+put_refusal-requires c =
+    let room : 2_048 ≤ length c.args.out.now = search rules in
+    omega (arith, refusal_short ListTooShort)
+
+pub returns-then-not-are_short : goal.returns-then-not-are_short
+returns-then-not-are_short c =
+    let p = put_over (put_is (too_long _ _ (sym c.are_short.ensures ∙ c.if-not-are_short.true)) c.put_refusal.ensures) in
+    record { value = p.0; out_after = p.1 }
+
+pub slice_bounds-loaded-end : goal.slice_bounds-loaded-end
+slice_bounds-loaded-end c = (book_was_read (goal.at.slice_bounds-loaded-end c).In-Numbers).inside
+
+pub slice_bounds-put_text-end-in-Numbers : goal.slice_bounds-put_text-end-in-Numbers
+slice_bounds-put_text-end-in-Numbers c = sym (length-take-le _ _ (book_was_read (goal.at.slice_bounds-put_text-end-in-Numbers c).In-Numbers).inside)
+
+pub put_text-requires-clause-book_value : goal.put_text-requires-clause-book_value
+put_text-requires-clause-book_value c = read_book_passes _ (book_was_read (goal.at.put_text-requires-clause-book_value c).In-Numbers)
+
+pub put_refusal-requires-in-Refused : goal.put_refusal-requires-in-Refused
+put_refusal-requires-in-Refused c =
+    let room : 2_048 ≤ length c.args.out.now = search rules in
+    omega (arith, refusal_short c.in-Refused.refusal)
+
+pub returns-in-Numbers : goal.returns-in-Numbers
+returns-in-Numbers c =
+    let p = put_over (put_is (book_read _ _ (was_short (goal.at.returns-in-Numbers c).Else-not-are_short) (book_was_read (goal.at.returns-in-Numbers c).In-Numbers)) c.put_text.ensures) in
+    record { value = p.0; out_after = p.1 }
+
+pub returns-in-Refused : goal.returns-in-Refused
+returns-in-Refused c =
+    let p =
+    put_over
+    (put_is
+    (book_refused _ _ (was_short (goal.at.returns-in-Refused c).Else-not-are_short) c.in-Refused.refusal
+    (book_refusal_lem _ _ 8_192 _ c.in-Refused.is c.read_book.ensures.result_value))
+    c.put_refusal-in-Refused.ensures) in
+    record { value = p.0; out_after = p.1 }
