@@ -134,11 +134,11 @@ module _ (loaded : List ℤ) (direction : List ℕ) (width : ℤ) (steps₀ step
 
   store_zero : before_search loaded direction width lent ≡ 0 → store₁ ≡ replicate (length store₀) (pos 0)
   unfolding decoded_store
-  store_zero b = D.Store-is ∙ cleared (before_search loaded direction width lent) store₀ b
+  store_zero b = D.store_is ∙ cleared (before_search loaded direction width lent) store₀ b
 
   store_same : 1 ≤ before_search loaded direction width lent → store₁ ≡ store₀
   unfolding decoded_store
-  store_same h = D.Store-is ∙ kept (before_search loaded direction width lent) store₀ h
+  store_same h = D.store_is ∙ kept (before_search loaded direction width lent) store₀ h
 
   -- where a refusal, or none, is the definitions', it is the result's
   says : (refusal : Refusal) → decode loaded direction width lent ≡ refused (number refusal) → result ≡ Refused refusal

@@ -1,5 +1,5 @@
 -- The three demands as statements, with no proof. proofs/Demanded.antt shows them from the contracts of `decode` and `score` alone, on every input
--- and without any other condition: `decode-demands`, `same_answer`, `score-demands`. That every call ends is part of what a contract means.
+-- and without any other condition: `decode_demands`, `same_answer`, `score_demands`. That every call ends is part of what a contract means.
 -- The contracts of the other calls are equations with a definition: they are demand 1 as they stand.
 -- The definitions are those of crate meaning; `negsuc 0` is −1, and the empty type ⊥ says "never".
 use Rattle.std.specs.Prelude.{ℕ, ◌/◌, ◌≤◌, ◌<◌, ◌≡◌, ◌↔◌, ◌⊎◌, true, false, ℤ, pos, negsuc, ◌≤ℤ◌, length, take, drop, replicate}
@@ -42,7 +42,7 @@ module _ (loaded : List ℤ) (direction : List ℕ) (width : ℤ) (steps₀ step
   abbrev Begins : Type 0
   Begins = before_search loaded direction width lent ≡ 0
 
-  -- the store holds ("length / 8 rounded down") the states that the transitions can reach, or is too small for them; one of the two is so (`room-or-small`)
+  -- the store holds ("length / 8 rounded down") the states that the transitions can reach, or is too small for them; one of the two is so (`room_or_small`)
   abbrev HasRoom : Type 0
   HasRoom = (keys : List Key) × AreReachable book direction keys × (length keys ≤ length store₀ / 8)
 
