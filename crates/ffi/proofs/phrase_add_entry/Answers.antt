@@ -1,11 +1,6 @@
 -- The numbers then in use or the refusal, as a signed number.
 use native.Mathlib.Omega.{arith}
-use mathlib.Core.Path.{ap, ◌∙◌}
-use mir.Syntax.{w64}
-use Rattle.laws.proofs.Integers.{back}
-use Rattle.ffi.specs.Calls.{count_or_refusal}
 use Rattle.ffi.proofs.Codes.{added_counted}
-use borrow.Author.Rules.{rules}
 use Rattle.ffi.proofs.phrase_add_entry.Goals as goal
 
 pub count_or_refusal-requires : goal.count_or_refusal-requires

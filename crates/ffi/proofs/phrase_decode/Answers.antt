@@ -24,15 +24,15 @@ width_read : (s : Start) → to_z w64 (of_z w64 s.args.width) ≡ s.args.width
 width_read s = search rules
 
 pub put_answer-requires : goal.put_answer-requires
-put_answer-requires c = 
+put_answer-requires c =
     let D = c.decode_plain-told.ensures in
-    countable _ _ _ _ _ _ _ _ _ D (omega (arith, c.well-formed.1.1.1.0)) (omega (arith, c.well-formed.1.1.1.1.0)) (omega (arith, c.well-formed.1.1.1.1.1.0)) c.reply-1.given.0.0 c.reply-1.given.1
+    countable _ _ _ _ _ _ _ _ _ D (omega arith) (omega arith) (omega arith) c.in-Done.a c.in-Done.is
 
 pub returns-in-Done : goal.returns-in-Done
-returns-in-Done c = 
+returns-in-Done c =
     let a = c.args in
     let back = width_read (goal.at.returns-in-Done c).Start in
-    let g = c.reply-1.given.1 in
+    let g = c.in-Done.is in
     decoded_numbers_lem a.book.now a.direction.now a.width a.steps.now c.put_all.new.steps a.words.now c.decode_plain-told.new.words a.store.now c.decode_plain-told.new.store c.decode_plain-told.result
     (subst (λ (w : ℤ). PlainDecodes a.book.now a.direction.now w (length a.steps.now / 3) a.words.now c.decode_plain-told.new.words a.store.now c.decode_plain-told.new.store c.decode_plain-told.result) back c.decode_plain-told.ensures)
     a.report.now c.put_answer.new.report (pos 0) c.put_all.ensures
@@ -40,12 +40,12 @@ returns-in-Done c =
     (c.put_answer.ensures ∙ sym (ap (λ (r : Decoded). filled_with (decode_report (decoded_reply r)) a.report.now) g))
 
 pub returns-in-Refused : goal.returns-in-Refused
-returns-in-Refused c = 
+returns-in-Refused c =
     let a = c.args in
     let back = width_read (goal.at.returns-in-Refused c).Start in
-    let g = c.reply-in-Refused-1.given.1 in
+    let g = c.in-Refused.is in
     decoded_numbers_lem a.book.now a.direction.now a.width a.steps.now c.put_all.new.steps a.words.now c.decode_plain-told.new.words a.store.now c.decode_plain-told.new.store c.decode_plain-told.result
     (subst (λ (w : ℤ). PlainDecodes a.book.now a.direction.now w (length a.steps.now / 3) a.words.now c.decode_plain-told.new.words a.store.now c.decode_plain-told.new.store c.decode_plain-told.result) back c.decode_plain-told.ensures)
     a.report.now a.report.now _ c.put_all.ensures
-    (code_back c.code_of.result c.reply-in-Refused-1.given.0.0 c.code_of.ensures ∙ sym (ap (λ (r : Decoded). zero_or_refusal (decoded_reply r)) g))
+    (code_back c.code_of.result c.in-Refused.refusal c.code_of.ensures ∙ sym (ap (λ (r : Decoded). zero_or_refusal (decoded_reply r)) g))
     (filled_none a.report.now ∙ sym (ap (λ (r : Decoded). filled_with (decode_report (decoded_reply r)) a.report.now) g))
