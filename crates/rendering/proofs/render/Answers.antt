@@ -7,7 +7,6 @@ use lib.Dec.{leb}
 use lib.ListN.{length}
 use lib.Seq.{length-take-le}
 use Rattle.meaning.specs.Book.{loaded_of, read_refusal}
-use Rattle.meaning.specs.declared.Refusal.TheVariants.{ListTooShort}
 use Rattle.decimals.proofs.Laws.{put_is, put_over}
 use Rattle.rendering.proofs.Inputs.{Filled, book_filled, book_refusal_lem, too_long, book_refused, book_read}
 use Rattle.printing.proofs.Lengths.{refusal_short}
@@ -26,7 +25,7 @@ book_was_read c = book_filled _ _ _ _ _ c.in-Numbers.is c.read_book.ensures.resu
 pub put_refusal-requires : goal.put_refusal-requires
 put_refusal-requires c =
     let room : 4_096 ≤ length c.args.out.now = search rules in
-    omega (arith, refusal_short ListTooShort)
+    omega (arith, refusal_short)
 
 pub returns-then-not-are_short : goal.returns-then-not-are_short
 returns-then-not-are_short c =
