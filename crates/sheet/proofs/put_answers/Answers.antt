@@ -17,7 +17,7 @@ put_answer-next-requires-clause-answer_bound c = let l = c.loop-answer in
     let f = c.requires.fits in
     let small : l.answer ≤ 34 = omega (arith, l.invariant.0, largest_small c.args.count f) in
     let p = l.invariant.1.1 in
-    (small, omega (arith, p.end, p.same, answers_short c.args.answers.now c.args.count 0 l.answer f.few (omega arith)))
+    (omega (arith, l.invariant.0, largest_small c.args.count f), omega (arith, p.end, p.same, answers_short c.args.answers.now c.args.count 0 l.answer f.few (omega arith)))
 
 pub overflow_add-answer : goal.overflow_add-answer
 overflow_add-answer c =
