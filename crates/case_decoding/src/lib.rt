@@ -4,7 +4,7 @@
 use case_line::line;
 use case_line::line::Number;
 use case_records::decoding::Asked;
-use case_records::{decoding, scoring};
+use case_records::{decoding, proposing};
 use case_reply::{reply, say};
 use meaning::Step;
 use std::io;
@@ -20,7 +20,10 @@ pub fn score(rt: &impl Print, text: &[u8], at: usize) -> io::Result<()> {
     let taken = line::take_steps(text, words.end);
     let count = taken.count;
     let steps = taken.steps;
-    reply::scored(rt, scoring::ask(&book[..n], &direction[..m], steps, count))
+    reply::scored(
+        rt,
+        proposing::ask(&book[..n], &direction[..m], steps, count),
+    )
 }
 
 // What is asked of a decode beside the book and the direction: the width, how many places of

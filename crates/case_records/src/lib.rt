@@ -2,5 +2,5 @@
 #![tactic(auto)]
 
 pub mod decoding;
+pub mod proposing;
 pub mod rounding;
-pub mod scoring;
