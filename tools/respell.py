@@ -1,7 +1,7 @@
 #!/usr/bin/env python3
 """Spells the repository's own definitions and lemmas as today's Rattle does: words in snake case, types and modules in camel case.
 
-usage: tools/respell.py        at the top of the repository, once, right after /opt/rattle/port/port.py
+usage: tools/respell.py        at the top of the repository, once, right after the kit's port.py
 
 It goes over specs/, proofs/, the clauses of src/ and the must-fail edits of each crate. A name is turned where a file of specs/ or a file of
 lemmas in proofs/ declares it; a dash within it becomes an underscore, but in a name that begins with a capital, where a dash joins a fact to
