@@ -4,7 +4,7 @@
  * question whose answer was no (docs/REFUSALS.md). No call keeps a pointer, allocates, or touches a list beyond its length.
  * A list that a call may write (book or direction of a reading, the book of an addition, a removal or an import, steps, words, store, report, answers, sheet) must not overlap another list of the same call;
  * lists that are only read may. A pointer is aligned for its type, and not null even where the length is 0.
- * A decode takes 759,000 bytes of stack, a round, also with its sheet, 757,000, a scoring 494,000, reading, checking or revising a book and the two target calls 477,000, an import 1,266,000,
+ * A decode takes 760,000 bytes of stack, a round, also with its sheet, 757,000, a scoring 494,000, reading, checking or revising a book and the two target calls 477,000, an import 1,266,000,
  * reading a direction fewer than 1,000.
  *
  * A loaded book is a list of signed 32-bit numbers: those of its lines, one line after the other, each with its kind first (B 1, P 2, T 3, U 4, D 5), and
