@@ -1,7 +1,7 @@
 -- A number that may be negative, as the code has it: its sign and its size.
 use Prim.Native.Nat.{◌^◌, ◌<◌}
 use mathlib.Core.Path.{◌≡◌, refl, ◌∙◌}
-use mathlib.Core.Bool.{Bool, false}
+use mathlib.Core.Bool.{true, false}
 use mathlib.Core.List.{◌∷◌}
 use native.Mathlib.Omega.{arith}
 use lib.IntN.{ℤ, pos, negsuc, ◌-ℤ◌}
@@ -26,17 +26,17 @@ above (pos n) h = refl
 above (negsuc n) h = absurd (omega arith)
 
 module _ (z : ℤ) (f : SFits w64 z) where
-  -- z as the code compares it
-  pub asked : (than : ℤ) {is : Bool} → lt_z (i64 z) than ≡ is → lt_z z than ≡ is
-  asked than t = rw (to_z-of_z f) at t
-
   -- z as the code reads it, where z < 0 fails
   pub read : lt_z (i64 z) (pos 0) ≡ false → (i64 z ≡ pos (up z)) × (dn z ≡ 0)
-  read t = let u = asked _ t in
-      (to_z-of_z f ∙ omega (arith, signed, num z), omega (arith, signed, num z))
+  read t =
+      let p : i64 z ≡ z = to_z-of_z f in
+      let u : lt_z z (pos 0) ≡ false = rw p at t in
+      (p ∙ omega (arith, signed, num z), omega (arith, signed, num z))
 
   -- 0 - z as the code makes it, where z < 0
-  pub turned : Within (2 ^ 62) z → 0 < dn z → i64 (pos 0 -ℤ i64 z) ≡ pos (dn z)
-  turned h n =
+  pub turned : Within (2 ^ 62) z → lt_z (i64 z) (pos 0) ≡ true → (i64 (pos 0 -ℤ i64 z) ≡ pos (dn z)) × (0 < dn z)
+  turned h t =
+      let p : i64 z ≡ z = to_z-of_z f in
+      let u : lt_z z (pos 0) ≡ true = rw p at t in
       let q : i64 (pos 0 -ℤ i64 z) ≡ pos 0 -ℤ z = (kept w64 (sub (lit {B = 0} (pos 0) (omega arith)) (leaf f h)) (omega arith)).is in
-      q ∙ omega (arith, signed, num z, dif (pos 0) z)
+      (q ∙ omega (arith, signed, num z, dif (pos 0) z), omega (arith, signed, num z))
