@@ -1,4 +1,4 @@
--- What the longer book can be refused with, once 23 to 25 and the caller's book have passed: 5, 6 and 20 (`longer-asks`). Its lines are whole, the B line is the only
+-- What the longer book can be refused with, once 23 to 25 and the caller's book have passed: 5, 6 and 20 (`longer_asks`). Its lines are whole, the B line is the only
 -- one, every number is in its range, and the counts are right.
 use Prim.Native.Nat.{ℕ, ◌-◌, ◌≤◌}
 use mathlib.Core.Path.{◌≡◌, refl, sym, ◌∙◌}

@@ -1,5 +1,5 @@
 -- Ticket 6: "where the caller's book had no such lines, scoring them equals scoring the file's own rounded values, less those passed over, by ARPA's
--- back-off rule, with u for a word that has no unigram" (`imported-score`).
+-- back-off rule, with u for a word that has no unigram" (`imported_score`).
 use Prim.Native.Nat.{ℕ, ◌≤◌}
 use mathlib.Core.Path.{◌≡◌, refl, ap, ◌∙◌}
 use mathlib.Core.Bool.{true}
@@ -135,8 +135,8 @@ module _ (text list : List ℕ) where
           let k : keep is_gram (rest ++ imported_lines text list) ≡ imported_lines text list = keep_++ is_gram rest (imported_lines text list) ∙ rw (none, keep_all is_gram (imported_lines text list) (imported_grams text list arpa)) refl in
           (ap (map gram_of) k ∙ map-map gram_of (imported_line list) (imported_of text), refl)
 
-  -- the theorem, of every triple of numbers: each is spelled by the known word that has it (`spells-known`) or, where none has it, by any word that is
-  -- not known (`spells-none`)
+  -- the theorem, of every triple of numbers: each is spelled by the known word that has it (`spells_known`) or, where none has it, by any word that is
+  -- not known (`spells_none`)
   pub imported_score : (book : List ℤ) (used : ℕ) → import_refusal text list book used ≡ 0 → ListsNone book used
       → (v w y : List ℕ) (a b c : ℕ) → Spells list v a → Spells list w b → Spells list y c
       → triple_score (book_of (longer_book text list book used)) a b c ≡ trigram (unseen_of text list (book_of (take used book)).unseen) (imported_of text) v w y

@@ -11,7 +11,7 @@ use Rattle.laws.proofs.Tests.{by_test}
 use Rattle.meaning.specs.Numerals.{minus}
 use Rattle.meaning.specs.Render.{digits_before, decimal}
 
--- one turn of `digitsBefore`
+-- one turn of `digits_before`
 last : (fuel n : ℕ) (r : List ℕ) → n < 10 → digits_before (suc fuel) n r ≡ (48 + n) ∷ r
 last fuel n r h = rw (lt-ltb n 10 h, digits_before)
 

@@ -10,9 +10,8 @@ use lib.Dec.{leb}
 use lib.IntN.{ℤ, pos, negsuc}
 use lib.Signed.{le_z, lt_z}
 use lib.ListN.{length, replicate, length-replicate}
-use mir.Val.{to_z, of_z}
-use mir.Syntax.{w64}
 use Rattle.laws.specs.Lists.{is_empty}
+use Rattle.laws.proofs.Got.{i64}
 use Rattle.laws.proofs.Tests.{both}
 use Rattle.meaning.specs.Questions.{◌unless◌, ◌orelse◌, number}
 use Rattle.meaning.specs.Book.{Book, book_of, book_refusal}
@@ -42,8 +41,8 @@ use Rattle.extending.specs.Extend.{Searchable}
 use Rattle.answer.specs.Told.{Told}
 use Rattle.decoder.specs.Decodes.{refused_by, no_answer, Concluded, SearchedIf, unless_refused, PlainDecodes}
 
--- a number of i64 is what its bytes are
-pub width_is : (width than : ℤ) {is : Bool} → to_z w64 (of_z w64 width) ≡ width → lt_z (to_z w64 (of_z w64 width)) than ≡ is → lt_z width than ≡ is
+-- the width, as the code compares it
+pub width_is : (width than : ℤ) {is : Bool} → i64 width ≡ width → lt_z (i64 width) than ≡ is → lt_z width than ≡ is
 width_is width than kept t = rw kept at t
 
 -- a valid derivation has no more steps than words

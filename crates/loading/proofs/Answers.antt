@@ -1,4 +1,4 @@
--- Questions 3 to 6 and 20 by the survey: what an answer of `surveyRefusal` and of the comparison of the n-grams says of all lines.
+-- Questions 3 to 6 and 20 by the survey: what an answer of `survey_refusal` and of the comparison of the n-grams says of all lines.
 use Prim.Native.Nat.{ℕ, zero, suc, ◌+◌, ◌-◌, ◌≤◌, ◌<◌}
 use native.Mathlib.Omega.{arith}
 use mathlib.Core.Path.{◌≡◌, refl, sym, ◌∙◌, ap, ap₂}

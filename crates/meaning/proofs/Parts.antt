@@ -1,4 +1,4 @@
--- A list that is written part by part (`byParts`), as a round's lists are: which places are whose, what one direction more writes, and what is left. With it the
+-- A list that is written part by part (`by_parts`), as a round's lists are: which places are whose, what one direction more writes, and what is left. With it the
 -- directions that the ends mark, and the store after them.
 use Prim.Native.Nat.{ℕ, zero, suc, ◌+◌, ◌-◌, ◌*◌, ◌≤◌, ◌<◌}
 use native.Mathlib.Nat.{mul-zero, mul-suc}

@@ -1,4 +1,4 @@
--- The states that the transitions can reach, by `mayExtend` and `nextKey` alone: with any width each state entered is one of them, since it was
+-- The states that the transitions can reach, by `may_extend` and `next_key` alone: with any width each state entered is one of them, since it was
 -- entered by such steps; with pruning off the search follows every sequence of such steps, so it enters them all. Question 13 by them.
 use Prim.Native.Nat.{ℕ, ◌/◌, ◌≤◌, ◌<◌}
 use native.Mathlib.Nat.{le_trans, le_of_eq, le_antisymm}

@@ -29,7 +29,7 @@ option_in options o = get_or options (options_from + o) 0
 unfoldable pub fitting_at : Book → List ℕ → ℕ → ℕ → List Step
 fitting_at book direction first m = keep (fits book direction) (map (step_at book first) (one_to m))
 
--- the steps that fit at the first i positions: at all of them, these are `fittingSteps`
+-- the steps that fit at the first i positions: at all of them, these are `fitting_steps`
 unfoldable pub fitting_to : Book → List ℕ → ℕ → List Step
 fitting_to book direction i = concat (map (λ first. fitting_at book direction first (length book.entries)) (one_to i))
 

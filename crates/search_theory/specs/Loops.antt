@@ -1,5 +1,5 @@
 -- The search of Search.antt once more, as loops do it: one state and one step at a time, over the whole list, with a test of the set for each state.
--- It is the same search: `level-sweep` and `best-pick` of proofs/Loops.antt.
+-- It is the same search: `level_sweep` and `best_pick` of proofs/Loops.antt.
 use Rattle.std.specs.Prelude.{ℕ, Bool, cond, List, [], ◌∷◌, eqb, ℤ, ◌+ℤ◌}
 use Rattle.std.proofs.Math.Option.{Option}
 use Rattle.search_theory.specs.Search.{Hypothesis, Problem, wins, St, extend, add}

@@ -1,6 +1,6 @@
--- Ticket 8, the call: 7 comes "after Ticket 7's 12" (`sheet-before`, `sheet-7`, `sheet-passes`); the rows are those of decodes (`rows-decoded`), so where no question refuses the
--- sheet has room (`round-sheet-room`), and its lines are of the round's directions, each as decoded alone (`round-sheet-direction`, `round-sheet-answered`, `round-sheet-refused`).
--- The program's sheet has as many bytes at most (`program-room`).
+-- Ticket 8, the call: 7 comes "after Ticket 7's 12" (`sheet_before`, `sheet_7`, `sheet_passes`); the rows are those of decodes (`rows_decoded`), so where no question refuses the
+-- sheet has room (`round_sheet_room`), and its lines are of the round's directions, each as decoded alone (`round_sheet_direction`, `round_sheet_answered`, `round_sheet_refused`).
+-- The program's sheet has as many bytes at most (`program_room`).
 use Prim.Native.Nat.{ℕ, suc, ◌*◌, ◌≤◌, ◌<◌}
 use native.Mathlib.Omega.{arith}
 use mathlib.Core.Path.{◌≡◌, refl, sym, ap, subst, ◌∙◌}

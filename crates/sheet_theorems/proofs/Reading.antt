@@ -1,4 +1,4 @@
--- Ticket 8: a sheet that is read is its lines (`sheet-read`, `sheet-ended`), so it tells all that it was made of (`sheet-answers`).
+-- Ticket 8: a sheet that is read is its lines (`sheet_read`, `sheet_ended`), so it tells all that it was made of (`sheet_answers`).
 use Prim.Native.Nat.{ℕ, suc}
 use mathlib.Core.Path.{◌≡◌, refl, sym, ap, ◌∙◌}
 use mathlib.Core.Bool.{Bool, true, not, ◌&&◌}

@@ -1,4 +1,4 @@
--- Ticket 8: a sheet of decodes (Call, `rows-decoded`) has at most 1,430 bytes (`sheet-room`), so the 2,048 that are asked for are enough. Beside the digits of its number an N line
+-- Ticket 8: a sheet of decodes (Call, `rows_decoded`) has at most 1,430 bytes (`sheet_room`), so the 2,048 that are asked for are enough. Beside the digits of its number an N line
 -- of an answer has at most 20 bytes, and one of a refusal 10; each E line has at most 8 and, but for that of answer 0, an N line of a refusal of its own.
 use Prim.Native.Nat.{ℕ, zero, suc, ◌+◌, ◌-◌, ◌*◌, ◌≤◌}
 use native.Mathlib.Omega.{arith}

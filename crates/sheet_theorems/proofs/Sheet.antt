@@ -1,6 +1,6 @@
--- Ticket 8, the lines of a sheet, said of its own lines and for every list of rows. Its parts are the N lines, the E lines and the Z line (`n-lines`, `e-lines`, `z-line`);
--- the N lines are the rows in their order (`sheet-direction`); the E lines are of the answers that occurred (`sheet-occurred`, `sheet-answered`), rising (`sheet-rising`), each with
--- its count (`sheet-counts`), and the counts add up (`sheet-adds-up`); the Z line is the N lines' number and sums (`sheet-total`).
+-- Ticket 8, the lines of a sheet, said of its own lines and for every list of rows. Its parts are the N lines, the E lines and the Z line (`n_lines_lem`, `e_lines_lem`, `z_line`);
+-- the N lines are the rows in their order (`sheet_direction`); the E lines are of the answers that occurred (`sheet_occurred`, `sheet_answered`), rising (`sheet_rising`), each with
+-- its count (`sheet_counts`), and the counts add up (`sheet_adds_up`); the Z line is the N lines' number and sums (`sheet_total`).
 use Prim.Native.Nat.{ℕ, zero, suc, ◌+◌, ◌≤◌, ◌<◌}
 use native.Mathlib.Omega.{arith}
 use mathlib.Core.Path.{◌≡◌, refl, sym, ap, subst, ◌∙◌}

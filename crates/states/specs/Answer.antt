@@ -12,7 +12,7 @@ use Rattle.store.specs.declared.Found.{Found}
 use Rattle.store.specs.declared.Found.TheVariants.{At, Nothing}
 use Rattle.states.specs.declared.Top.{Top}
 
--- the states that cover i words: `setOf` of the search, which depends on no book
+-- the states that cover i words: `set_of` of the search, which depends on no book
 abbrev pub sized : ℕ → List Hyp → List Hyp
 sized i l = keep (λ s. eqb (words_covered s.key) i) l
 

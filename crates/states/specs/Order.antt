@@ -1,4 +1,4 @@
--- The order of the search on what code holds: `isBetter` of the notes, which is of hypotheses with their steps.
+-- The order of the search on what code holds: `is_better` of the notes, which is of hypotheses with their steps.
 use Rattle.std.specs.Prelude.{◌≡◌, Bool, true, false, cond, List, [], ◌∷◌, ◌++◌, ℕ, ◌<◌, ℤ, length, get_or}
 use Rattle.std.specs.Int.Signed.{lt_z}
 use Rattle.meaning.specs.Derivation.{comes_before}

@@ -1,7 +1,7 @@
 -- A book without D and U lines is as it was before Ticket 2: every triple scores as in document 01, so every refusal, reply, list and
 -- state of the base is unchanged. What document 01 says of its three kinds of lines stands here once more, as definitions; the
--- theorems are `base-score`, `base-refusal`, `base-derivation`, `base-search`, for a loaded list `loaded-refusal`,
--- `loaded-scoring` and `loaded-decoding`, and for a text `base-reading`. Ticket 3's counts, which document 01 has not, are as in any book (Supplying has more).
+-- theorems are `base_score`, `base_refusal`, `base_derivation`, `base_search`, for a loaded list `loaded_refusal`,
+-- `loaded_scoring` and `loaded_decoding`, and for a text `base_reading`. Ticket 3's counts, which document 01 has not, are as in any book (Supplying has more).
 use Prim.Native.Nat.{ℕ, zero, suc, ◌*◌, ◌/◌}
 use native.Mathlib.Omega.{arith}
 use mathlib.Core.Path.{◌≡◌, refl, ap, ◌∙◌}

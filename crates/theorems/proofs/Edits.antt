@@ -1,6 +1,6 @@
 -- Ticket 5, "A decode after any edits equals a decode of the edited book read afresh.": after any additions and removals, refused ones too, the numbers in use
--- are those of the edited text as reading loads it, and reading takes that text (`edits-hold`); so all that a call answers is the same (`edits-decode`,
--- `edits-score`, `edits-part`).
+-- are those of the edited text as reading loads it, and reading takes that text (`edits_hold`); so all that a call answers is the same (`edits_decode`,
+-- `edits_score`, `edits_part`).
 use Prim.Native.Nat.{ℕ, zero, suc, ◌-◌, ◌≤◌}
 use native.Mathlib.Omega.{arith}
 use mathlib.Core.Path.{◌≡◌, refl, sym, ap, ◌∙◌, subst}

@@ -1,6 +1,6 @@
 -- Ticket 4, "the sum of triple scores inside one phrase is kept in 32 bits; at most 24,000,000 in size, it fits": of any phrase of any book that the checks
--- pass, after any two words (`phrase-sum`, `phrase-fits`), and so of its first words alone, which the code's sum comes to on its way. The bound is not
--- reached: a pair whose weight is added is listed, and the word that it ends has that much less. The sum is never more than 17,000,000 (`phrase-most`),
+-- pass, after any two words (`phrase_sum`, `phrase_fits`), and so of its first words alone, which the code's sum comes to on its way. The bound is not
+-- reached: a pair whose weight is added is listed, and the word that it ends has that much less. The sum is never more than 17,000,000 (`phrase_most`),
 -- which the cases of `try_cases` reach.
 use Prim.Native.Nat.{ℕ, ◌+◌, ◌*◌, ◌-◌, ◌≤◌}
 use native.Mathlib.Omega.{arith}

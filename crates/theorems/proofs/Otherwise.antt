@@ -1,8 +1,8 @@
 -- Ticket 3 puts four counts into an answer and a scoring, and changes nothing otherwise. Ticket 2's replies stand here once more, as definitions: those of the
--- calls with the counts left out are they (`decode-otherwise`, `scoring-otherwise`), a report of no more places than ticket 2 had values is filled as it was
--- (`report-otherwise`, `score-otherwise`), and an answer is printed as it was but for the counts at the end of its first line (`printed-otherwise`). What they are
--- said of did not change a line: the refusals of each call (`proposalRefusal`, `decodeRefusal`), `scoreOf`, `answer`, `entered`, and the lent lists after a decode
--- (`decodedSteps`, `decodedWords`, `decodedStore`).
+-- calls with the counts left out are they (`decode_otherwise`, `scoring_otherwise`), a report of no more places than ticket 2 had values is filled as it was
+-- (`report_otherwise`, `score_otherwise`), and an answer is printed as it was but for the counts at the end of its first line (`printed_otherwise`). What they are
+-- said of did not change a line: the refusals of each call (`proposal_refusal`, `decode_refusal`), `score_of`, `answer`, `entered`, and the lent lists after a decode
+-- (`decoded_steps`, `decoded_words`, `decoded_store`).
 use Prim.Native.Nat.{ℕ, zero, suc, ◌≤◌}
 use native.Mathlib.Omega.{arith}
 use mathlib.Core.Path.{◌≡◌, refl, ap, ◌∙◌}

@@ -1,4 +1,4 @@
--- A number that is printed and read is that number, and a P line that is printed and read is that line (`printed-lines`, `printed-text`): so every line that
+-- A number that is printed and read is that number, and a P line that is printed and read is that line (`printed_lines`, `printed_text`): so every line that
 -- can be added to a loaded book can stand in a text.
 use Prim.Native.Nat.{ℕ, zero, suc, ◌+◌, ◌-◌, ◌*◌, ◌/◌, ◌%◌, ◌^◌, ◌≤◌, ◌<◌}
 use native.Mathlib.Omega.{arith}
@@ -24,7 +24,7 @@ use Rattle.theorems.proofs.Texts.{LineText, is_free, split_first, split_alone, b
 
 -- ════ digits
 
--- one turn of `digitsBefore`
+-- one turn of `digits_before`
 one_digit : (fuel n : ℕ) (rest : List ℕ) → n < 10 → digits_before (suc fuel) n rest ≡ (48 + n) ∷ rest
 one_digit fuel n rest h = rw (lt-ltb n 10 h, digits_before)
 

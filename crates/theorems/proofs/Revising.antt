@@ -1,6 +1,6 @@
--- Ticket 5, for the reader: adding an entry is reading the text with that line behind its last (`adding`, `adding-refuses`), removing one is reading the
--- text without it (`removing`, `removing-reads`), the removal of an entry just added leaves the book as it was and zeros behind it (`add-remove`), reading
--- never answers 21 (`never-21`), and the book that an edit leaves passes all questions of a book (`added-passes`, `removed-passes`).
+-- Ticket 5, for the reader: adding an entry is reading the text with that line behind its last (`adding`, `adding_refuses`), removing one is reading the
+-- text without it (`removing`, `removing_reads`), the removal of an entry just added leaves the book as it was and zeros behind it (`add_remove`), reading
+-- never answers 21 (`never_21`), and the book that an edit leaves passes all questions of a book (`added_passes`, `removed_passes`).
 use Prim.Native.Nat.{ℕ, zero, suc, ◌+◌, ◌-◌, ◌≤◌}
 use native.Mathlib.Omega.{arith}
 use mathlib.Core.Path.{◌≡◌, refl, sym, ap, ◌∙◌, subst}

@@ -1,6 +1,6 @@
--- Ticket 7, a round's directions together. The questions of the whole round (`round-book`, `round-26`, `round-12`, `round-passes`, `round-refused`) and its directions
--- (`round-words`, `round-together`); each direction is answered as if it were decoded alone (`round-alone`, `round-found`), on places of its own (`round-behind`); the
--- store is left as one decode leaves it (`round-store`, `round-kept`); and the order shows in nothing but the places (`round-order`, `round-order-found`, `round-order-store`).
+-- Ticket 7, a round's directions together. The questions of the whole round (`round_book`, `round_26`, `round_12`, `round_passes`, `round_refused`) and its directions
+-- (`round_words`, `round_together`); each direction is answered as if it were decoded alone (`round_alone`, `round_found`), on places of its own (`round_behind`); the
+-- store is left as one decode leaves it (`round_store`, `round_kept`); and the order shows in nothing but the places (`round_order`, `round_order_found`, `round_order_store`).
 use Prim.Native.Nat.{ℕ, zero, suc, ◌+◌, ◌-◌, ◌*◌, ◌≤◌, ◌<◌}
 use native.Mathlib.Omega.{arith}
 use mathlib.Core.Path.{◌≡◌, refl, sym, ap, ◌∙◌, subst}

@@ -1,6 +1,6 @@
 -- Ticket 3, "whether triple, pair, word or u supplied the final score": the score of a triple is the weights that were passed on the way to the supplier and
--- the supplier's own score (`supplied-score`); and in a book without D and U lines a triple or u supplies every word (`base-supplier`, `base-supplied`,
--- `loaded-supplied`).
+-- the supplier's own score (`supplied_score`); and in a book without D and U lines a triple or u supplies every word (`base_supplier`, `base_supplied`,
+-- `loaded_supplied`).
 use Prim.Native.Nat.{ℕ}
 use mathlib.Core.Path.{◌≡◌, refl, sym, ◌∙◌}
 use mathlib.Core.Bool.{true, false, cond, and-false}

@@ -1,4 +1,4 @@
--- The lines of a text as bytes: a text behind one that is ended (`lines-appended`), and the text of lines (`lines-joined`).
+-- The lines of a text as bytes: a text behind one that is ended (`lines_appended`), and the text of lines (`lines_joined`).
 use Prim.Native.Nat.{ℕ}
 use mathlib.Core.Path.{◌≡◌, refl, sym, ap, ◌∙◌}
 use mathlib.Core.Bool.{Bool, true, false, not, ◌&&◌, false≢true}

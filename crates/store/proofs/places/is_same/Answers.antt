@@ -1,4 +1,4 @@
--- The code leaves at the first field that differs, as `isSame` does.
+-- The code leaves at the first field that differs, as `is_same` does.
 use Rattle.store.proofs.Writes.{same_1, same_2, same_3, same_4}
 use Rattle.store.proofs.places.is_same.Goals as goal
 

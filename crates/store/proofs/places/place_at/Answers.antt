@@ -1,4 +1,4 @@
--- Each field is read off its number, as `placeAt` says it.
+-- Each field is read off its number, as `place_at` says it.
 use mathlib.Core.Path.{◌∙◌, ap}
 use Prim.Native.Nat.{ℕ, ◌+◌, ◌/◌, ◌%◌}
 use lib.IntN.{pos}
