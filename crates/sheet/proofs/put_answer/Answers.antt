@@ -22,22 +22,18 @@ pub overflow_cast-numbers-2 : goal.overflow_cast-numbers-2
 overflow_cast-numbers-2 c = search (rules, found-small (goal.at.overflow_cast-numbers-2 c).Start c.count_of-found.ensures)
 
 pub put_line-requires-clause-numbers_in_bounds : goal.put_line-requires-clause-numbers_in_bounds
-put_line-requires-clause-numbers_in_bounds c = let n = c.count_of-found in
+put_line-requires-clause-numbers_in_bounds c = let n = c.count_of-found in let line = its_line (rows_in c.args.answers.now c.args.count) c.args.answer n.ensures (omega (arith, c.if-found-eq0.false)) in
     let few = found-small (goal.at.put_line-requires-clause-numbers_in_bounds c).Start n.ensures in
-    let line = its_line (rows_in c.args.answers.now c.args.count) c.args.answer n.ensures (omega (arith, c.if-found-eq0.false)) in
     (line_asks 69 c.args.at (two_held c.args.answer n.result (omega arith) few) (two_put c.args.answer n.result (omega arith) few)
     (omega (arith, ap length line, answer_short c.args.answers.now c.args.count c.args.answer c.requires.fits.few c.requires.answer_bound.0))).1
 
 pub put_line-requires-clause-printable : goal.put_line-requires-clause-printable
-put_line-requires-clause-printable c = let n = c.count_of-found in
+put_line-requires-clause-printable c = let n = c.count_of-found in let line = its_line (rows_in c.args.answers.now c.args.count) c.args.answer n.ensures (omega (arith, c.if-found-eq0.false)) in
     let few = found-small (goal.at.put_line-requires-clause-printable c).Start n.ensures in
-    let line = its_line (rows_in c.args.answers.now c.args.count) c.args.answer n.ensures (omega (arith, c.if-found-eq0.false)) in
     (line_asks 69 c.args.at {room = length c.args.out.now} (two_held c.args.answer n.result (omega arith) few) (two_put c.args.answer n.result (omega arith) few)
     (omega (arith, ap length line, answer_short c.args.answers.now c.args.count c.args.answer c.requires.fits.few c.requires.answer_bound.0))).0
 
 pub returns : goal.returns
-returns c =
-    let n = c.count_of-found in
+returns c = let n = c.count_of-found in let line = its_line (rows_in c.args.answers.now c.args.count) c.args.answer n.ensures (omega (arith, c.if-found-eq0.false)) in
     let few = found-small (goal.at.returns c).Start n.ensures in
-    let line = its_line (rows_in c.args.answers.now c.args.count) c.args.answer n.ensures (omega (arith, c.if-found-eq0.false)) in
     put_is (ap (printed_line 69) (two_held c.args.answer n.result (omega arith) few) ∙ sym line) c.put_line.ensures
