@@ -1,14 +1,11 @@
 -- The answer's steps and words.
-use Prim.Native.Nat.{ℕ, suc, ◌+◌, ◌*◌, ◌≤◌, ◌<◌}
+use Rattle.std.specs.declared.result.Result.TheVariants.{Ok}
+use Prim.Native.Nat.{ℕ, suc, ◌≤◌, ◌<◌}
 use native.Mathlib.Omega.{arith}
 use mathlib.Core.Path.{◌≡◌, refl, sym, ◌∙◌, ap, subst}
-use mathlib.Core.Bool.{Bool, false}
-use mathlib.Core.List.{List, [], ◌∷◌, ◌++◌, map, map-append}
-use borrow.Author.Tests.{lt-leb}
-use lib.Dec.{leb}
+use mathlib.Core.List.{List, [], ◌∷◌, map}
 use lib.IntN.{ℤ}
 use lib.ListN.{length, get_or, take}
-use Rattle.laws.proofs.Lists.{take_next}
 use Rattle.meaning.specs.Book.{Book, book_of}
 use Rattle.meaning.specs.Derivation.{no_step, target_words, supplied_of}
 use Rattle.meaning.specs.declared.Supplied.{Supplied}
@@ -17,27 +14,14 @@ use Rattle.meaning.specs.Reply.{written_over}
 use Rattle.meaning.specs.State.{Hyp}
 use Rattle.meaning.specs.declared.Step.{Step}
 use Rattle.meaning.proofs.Steps.{fits_facts}
-use Rattle.records.specs.Plain.{step_in, steps_of, unless_full, with_step, Added}
+use Rattle.records.specs.Plain.{step_in, steps_of}
 use Rattle.records.specs.declared.Plain.{Plain}
 use Rattle.records.proofs.Laws.{step_at}
-use Rattle.ways.specs.Back.{nobody, Leads, Way}
+use Rattle.ways.specs.Back.{nobody, Way}
 use Rattle.ways.specs.Codes.{step_of}
 use Rattle.book.specs.Entries.{EntriesAt}
-use Rattle.meaning.specs.declared.Decoded.TheVariants.{Done}
 use Rattle.store.specs.Store.{place_at}
 use Rattle.answer.specs.Told.{Ends, Told}
-
--- ════ the steps of a row of numbers
-
-pub steps_more : (f : ℕ → Step) (way : List ℕ) {p r : Plain} {step : Step} {k : ℕ} → k < length way → k < 33 → p.count ≡ k → steps_of p ≡ map f (take k way)
-    → step ≡ f (get_or way k 0) → Added p step r → (r.count ≡ k + 1) × (steps_of r ≡ map f (take (k + 1) way))
-steps_more f way {p} {r} {step} {k} h few e s z a =
-    let full : leb 33 p.count ≡ false = lt-leb 33 p.count (omega arith) in
-    let c : (with_step p step).count ≡ p.count + 1 = ap (λ (b : Bool). (unless_full b p step).count) full in (
-      ap (λ (q : Plain). q.count) a.is ∙ c ∙ ap (λ (m : ℕ). m + 1) e,
-      a.steps (omega arith) ∙ ap (λ (ss : List Step). ss ++ (step ∷ [])) s ∙ ap (λ (x : Step). map f (take k way) ++ (x ∷ [])) z
-          ∙ sym (map-append f (take k way) (get_or way k 0 ∷ [])) ∙ ap (map f) (sym (take_next way k 0 h)),
-    )
 
 -- ════ the steps of the numbers that the store holds
 
@@ -56,16 +40,6 @@ module _ {book : Book} {direction : List ℕ} {st : List ℤ} {k : ℕ} {q : Hyp
 
   pub ends_few : word_count direction ≤ 32
   ends_few = E.shown.fine.few
-
-  pub ends_lead : Leads st k 32
-  ends_lead =
-      let s = E.short in
-      let f = ends_few in
-      let e : length (get_or E.list k nobody).steps ≡ length q.steps = ap length steps_same in
-      record { list = E.list; chains = E.chains; inside = E.inside; short = omega arith }
-
-  pub ends_room : 8 * k + 8 ≤ length st
-  ends_room = let r = E.chains.room in let h = E.inside in omega arith
 
   module _ {out : List ℕ} {d : ℕ} (W : Way (get_or E.list k nobody).steps out d) where
     pub way_long : d ≡ length q.steps
@@ -96,7 +70,7 @@ pub told : {book : Book} {direction : List ℕ} {st : List ℤ} {k : ℕ} {q : H
     → (many ≡ length (target_words book (steps_of plain))) × (words₁ ≡ written_over (target_words book (steps_of plain)) words₀)
     → score ≡ (place_at st k).state.score
     → supplied ≡ supplied_of book (steps_of plain)
-    → Told book q states words₀ words₁ (record { plain = plain; reply = Done (record { score = score; steps = d; words = many; states = states; supplied = supplied }) })
+    → Told book q states words₀ words₁ (record { plain = plain; reply = Ok (record { score = score; steps = d; words = many; states = states; supplied = supplied }) })
 told {book} {q} E {words₀} plain {d} {many} {states} W h (c, s) (m, w) z u =
     let ss : steps_of plain ≡ q.steps = s ∙ way_steps E W h in
     let score_is = z ∙ E.shown.score_is in
@@ -107,5 +81,5 @@ told {book} {q} E {words₀} plain {d} {many} {states} W h (c, s) (m, w) z u =
       steps_are = ss;
       count_is = c ∙ way_long E W;
       words_after = w ∙ ap (λ (xs : List Step). written_over (target_words book xs) words₀) ss;
-      reply_is = λ i. Done (record { score = score_is i; steps = steps_are i; words = words_are i; states = states; supplied = supplied_is i });
+      reply_is = λ i. Ok (record { score = score_is i; steps = steps_are i; words = words_are i; states = states; supplied = supplied_is i });
     }

@@ -1,4 +1,5 @@
 -- What is answered of the best state of a search.
+use Rattle.std.specs.declared.result.Result.TheVariants.{Ok}
 use Rattle.std.specs.Prelude.{ℕ, ◌≤◌, ◌<◌, ◌≡◌, true, List, ℤ, length, get_or}
 use Rattle.meaning.specs.Book.{Book}
 use Rattle.meaning.specs.Derivation.{no_step, fits, target_words, supplied_of}
@@ -6,7 +7,6 @@ use Rattle.meaning.specs.Direction.{word_count}
 use Rattle.meaning.specs.Reply.{written_over}
 use Rattle.meaning.specs.State.{Hyp}
 use Rattle.meaning.specs.declared.Answer.{Answer}
-use Rattle.meaning.specs.declared.Decoded.TheVariants.{Done}
 use Rattle.records.specs.Plain.{steps_of}
 use Rattle.ways.specs.Back.{nobody, Chains}
 use Rattle.states.specs.Shows.{Shows}
@@ -37,4 +37,4 @@ pub record Told (book : Book) (q : Hyp) (states : ℕ) (words₀ words₁ : List
   pub steps_are : steps_of r.plain ≡ q.steps
   pub count_is : r.plain.count ≡ length q.steps
   pub words_after : words₁ ≡ written_over (target_words book q.steps) words₀
-  pub reply_is : r.reply ≡ Done (answer_by book q states)
+  pub reply_is : r.reply ≡ Ok (answer_by book q states)

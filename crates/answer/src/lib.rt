@@ -11,14 +11,14 @@ ghost use Rattle.meaning.specs.State.{Hyp};
 ghost use Rattle.answer.specs.Told.{Ends, Ended, Told};
 
 use derivation::Setup;
-use meaning::{Answer, Decoded};
+use meaning::{Answer, Refusal};
 use records::Plain;
 
 // What a decode answers on plain numbers: the steps to write, none on a refusal, and the reply.
 #[derive(Clone, Copy)]
 pub struct PlainReply {
     pub plain: Plain,
-    pub reply: Decoded,
+    pub reply: Result<Answer, Refusal>,
 }
 
 // The steps of the first d numbers of a row, as plain numbers.
@@ -28,10 +28,8 @@ fn steps_of(way: &[usize], d: usize) -> Plain
     ensures { (result.count ≡ d) × (steps_of result ≡ map step_of (take d way.now)) }
 {
     let mut plain = records::empty();
-    let mut k = 0;
-    while k < d {
-        plain = records::with_step(plain, ways::steps::step(way[k]));
-        k += 1;
+    for number in &way[..d] {
+        plain = records::with_step(plain, ways::steps::step(*number));
     }
     plain
 }
@@ -66,7 +64,7 @@ pub fn trace(
     let x = store::places::place_at(store, best.at);
     PlainReply {
         plain,
-        reply: Decoded::Done(Answer {
+        reply: Ok(Answer {
             score: x.state.score,
             steps: d,
             words: many,

@@ -69,7 +69,7 @@ module _ {list : List ℕ} {gs₀ : List Ngram} {m₀ : Model} {index₀ tally�
       }
 
   carried_line : (row : List ℤ) (made : Row) → length tally ≡ tally_size → RowIs list g row made
-      → Carried list gs₀ m₀ index₀ tally₀ gs (record { survey = with_line m.survey (take made.size row); known = m.known && made.known; ranged = m.ranged && made.ranged; unknown = m.unknown; unseen = m.unseen })
+      → Carried list gs₀ m₀ index₀ tally₀ gs (record { survey = with_line m.survey (take made.size row); known = m.known && made.known; ranged = m.ranged && made.ranged; unseen = m.unseen })
       (with_gram index (gram_count tally) (take made.size row)) (with_kind tally (take made.size row))
   unfolding survey_from tally_from grams_from
   carried_line row made long r =

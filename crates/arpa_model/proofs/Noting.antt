@@ -43,13 +43,12 @@ few_noted m row (Line made) m' index tally index' tally' n s f = rw (s.model_is,
 -- the loop's invariant
 pub record Noting (text list : List ℕ) (from₀ : Cursor) (model₀ : Model) (grams₀ tally₀ : List ℕ) (from : Cursor) (model : Model) (grams tally : List ℕ) : Type 0 where
   pub walking : Walking text from
-  pub words_same : from.words ≡ from₀.words
   pub long : length grams ≡ length grams₀
   pub carried : Carried list (ngrams_at text from₀) model₀ grams₀ tally₀ (ngrams_at text from) model grams tally
   pub room : IsRoom text from model.survey tally
 
 pub noting_start : {text : List ℕ} (list : List ℕ) {from : Cursor} (model : Model) (grams : List ℕ) {tally : List ℕ} → Walking text from → IsRoom text from model.survey tally → Noting text list from model grams tally from model grams tally
-noting_start {text} list {from} model grams {tally} w r = record { walking = w; words_same = refl; long = refl; carried = carried_none list (ngrams_at text from) model grams tally; room = r }
+noting_start {text} list {from} model grams {tally} w r = record { walking = w; long = refl; carried = carried_none list (ngrams_at text from) model grams tally; room = r }
 
 -- none is left
 pub noting_end : {text list : List ℕ} {from₀ : Cursor} {model₀ : Model} {grams₀ tally₀ : List ℕ} {from : Cursor} {model : Model} {grams tally : List ℕ} (s : Survey)
@@ -65,7 +64,6 @@ module _ {text list : List ℕ} {from₀ : Cursor} {model₀ : Model} {grams₀ 
   pub noting_next : {model' : Model} {grams' tally' : List ℕ} → NotedAs model met.gram row grams tally model' grams' tally' → Noting text list from₀ model₀ grams₀ tally₀ met.cursor model' grams' tally'
   noting_next {model'} {grams'} {tally'} s = record {
     walking = m.walking;
-    words_same = m.words_same ∙ n.words_same;
     long = long_noted model row met.gram model' grams tally grams' tally' s ∙ n.long;
     carried = carried_gram (rw m.first at n.carried) row met.gram n.room.few.each_kind m.is s;
     room = record { most = n.room.most + 1; few = few_noted model row met.gram model' grams tally grams' tally' n.room.most s n.room.few; room = omega (arith, n.room.room, ap length m.first) };

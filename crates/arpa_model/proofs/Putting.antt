@@ -68,7 +68,6 @@ line_first list g gs row (Line made) h is = rw (is.line (is.ranged_is ∙ (score
 
 pub record Writing (text list : List ℕ) (from₀ : Cursor) (out₀ : List ℤ) (from : Cursor) (n : ℕ) (out : List ℤ) : Type 0 where
   pub walking : Walking text from
-  pub words_same : from.words ≡ from₀.words
   pub scores : are_scores_in (ngrams_at text from) ≡ true
   pub room : length (concat (lines_in list (ngrams_at text from₀))) ≤ length out₀
   pub done : List ℤ
@@ -78,7 +77,7 @@ pub record Writing (text list : List ℕ) (from₀ : Cursor) (out₀ : List ℤ)
 
 pub writing_start : {text : List ℕ} (list : List ℕ) {from : Cursor} (out : List ℤ) → Walking text from → are_scores_in (ngrams_at text from) ≡ true → length (concat (lines_in list (ngrams_at text from))) ≤ length out
     → Writing text list from out from 0 out
-writing_start list out w s r = record { walking = w; words_same = refl; scores = s; room = r; done = []; many = refl; put = refl; all_are = refl }
+writing_start list out w s r = record { walking = w; scores = s; room = r; done = []; many = refl; put = refl; all_are = refl }
 
 module _ {text list : List ℕ} {from₀ : Cursor} {out₀ : List ℤ} {from : Cursor} {n : ℕ} {out : List ℤ} (w : Writing text list from₀ out₀ from n out) where
   -- the list keeps its length
@@ -100,7 +99,6 @@ module _ {text list : List ℕ} {from₀ : Cursor} {out₀ : List ℤ} {from : C
     pub writing_next : {out' : List ℤ} {n' : ℕ} → PutAt out n (line_of_gram row met.gram) out' n' → Writing text list from₀ out₀ met.cursor n' out'
     writing_next p = record {
       walking = m.walking;
-      words_same = m.words_same ∙ w.words_same;
       scores = (scores_first m.ngram (ngrams_at text met.cursor) (rw m.first at w.scores)).1;
       room = w.room;
       done = w.done ++ line_of_gram row met.gram;

@@ -1,28 +1,30 @@
 -- One line more of the sections: an n-gram, the next section, or the end.
+use Rattle.std.proofs.Common.{Option, Some, None}
 use Prim.Native.Nat.{ℕ, suc, ◌+◌, ◌*◌, ◌≤◌}
 use mathlib.Core.Path.{◌≡◌, refl, sym, ap, ◌∙◌}
 use mathlib.Core.Bool.{true, ◌&&◌}
 use mathlib.Core.List.{List, [], ◌∷◌}
 use native.Mathlib.Omega.{arith}
 use native.Mathlib.Numerals.{add-one}
-use borrow.Author.Tests.{eq-eqb, ne_eqb, eqb-true, eqb-false, leb-true}
+use borrow.Author.Tests.{eq-eqb, ne_eqb, leb-true}
 use lib.Dec.{eqb, leb}
 use lib.IntN.{ℤ}
-use lib.ListN.{length, drop, drop_of_length-le}
+use lib.ListN.{length, drop}
 use Rattle.laws.specs.Lists.{count}
-use Rattle.laws.proofs.Tests.{both, clash, by_test}
-use Rattle.meaning.specs.Numerals.{split}
-use Rattle.arpa.specs.Lines.{split_blank, fields_of, filled_lines}
+use Rattle.laws.proofs.Tests.{both, by_test}
+use Rattle.arpa.specs.Lines.{filled_lines}
 use Rattle.arpa.specs.File.{is_gram_line, ngram_of}
 use Rattle.arpa.proofs.Room.{is_long, long_few}
 use Rattle.tokens.specs.declared.scan.Line.{Line}
-use Rattle.tokens.specs.Scan.{LineRead}
+use Rattle.tokens.specs.Scan.{LineRead, NextRead}
+use Rattle.outline.proofs.Noted.{none_read}
 use Rattle.tokens.specs.Fields.{FieldsAt}
 use Rattle.outline.specs.Outline.{walked, is_walk}
 use Rattle.ngram_lines.specs.declared.Gram.{Gram}
 use Rattle.ngram_lines.specs.Gram.{GramRead, GramIs}
 use Rattle.arpa_model.specs.declared.walk.Cursor.{Cursor}
-use Rattle.arpa_model.specs.Walk.{ngrams_at, MetIs}
+use Rattle.arpa_model.specs.declared.walk.Met.{Met}
+use Rattle.arpa_model.specs.Walk.{ngrams_at, MetIs, NextIs}
 
 -- ---- of lines
 
@@ -56,19 +58,14 @@ module _ (top order : ℕ) (fields : List (List ℕ)) (lines : List (List (List 
 -- ---- of a text
 
 module _ {text : List ℕ} {at : ℕ} {places : List ℕ} {line : Line} (r : LineRead text at places line) (top order : ℕ) (w : is_walk top order (filled_lines (drop at text)) ≡ true) where
-  -- there is a line
-  pub line_read : 1 ≤ line.count
-  unfolding is_walk
-  line_read = by_test (eqb line.count 0) (λ t. clash w (rw (r.none (eqb-true line.count 0 t)) refl)) (λ f. omega (arith, eqb-false line.count 0 f))
-
   walk_here : is_walk top order (r.fields ∷ filled_lines (drop line.next text)) ≡ true
-  walk_here = rw (sym (r.some line_read)) w
+  walk_here = rw (sym r.is) w
 
   pub ngram_read : (line.count ≡ 1 → ⊥) → NgramFirst top order r.fields (filled_lines (drop line.next text))
   ngram_read n = ngram_first top order r.fields (filled_lines (drop line.next text)) walk_here (λ e. n (sym r.long ∙ e))
 
   pub lines_here : walked top order (filled_lines (drop at text)) ≡ walked top order (r.fields ∷ filled_lines (drop line.next text))
-  lines_here = ap (walked top order) (r.some line_read)
+  lines_here = ap (walked top order) r.is
 
   pub end_read : line.count ≡ 1 → order ≡ top → walked top order (filled_lines (drop at text)) ≡ []
   end_read one e = lines_here ∙ end_first top order r.fields (filled_lines (drop line.next text)) walk_here (r.long ∙ one) e
@@ -79,14 +76,15 @@ module _ {text : List ℕ} {at : ℕ} {places : List ℕ} {line : Line} (r : Lin
       let s = section_first top order r.fields (filled_lines (drop line.next text)) walk_here (r.long ∙ one) n in
       (s.0, lines_here ∙ s.1)
 
--- behind the text's end there is nothing
-pub ngrams_over : (text : List ℕ) (top order at : ℕ) → length text ≤ at → walked top order (filled_lines (drop at text)) ≡ []
-unfolding walked filled_lines fields_of split_blank split
-ngrams_over text top order at h = rw (drop_of_length-le text h) refl
+-- where there is no line there is nothing
+pub ngrams_over : (text : List ℕ) (top order at : ℕ) (places : List ℕ) (next : Option Line) → ((line : Line) → next ≡ Some line → ⊥) → NextRead text at places next → walked top order (filled_lines (drop at text)) ≡ []
+unfolding walked
+ngrams_over text top order at places next h r = rw (none_read text at places next h r) refl
 
-pub cursor_over : (text : List ℕ) (c : Cursor) → length text ≤ c.at → ngrams_at text c ≡ []
-unfolding ngrams_at
-cursor_over text c h = ngrams_over text c.top c.order c.at h
+-- nor is there an n-gram where none was met
+pub none_met : (text list : List ℕ) (c : Cursor) (row : List ℤ) (next : Option Met) → ((met : Met) → next ≡ Some met → ⊥) → NextIs text list c row next → ngrams_at text c ≡ []
+none_met text list c row None h n = n
+none_met text list c row (Some met) h n = absurd (h met refl)
 
 -- ---- a walk from one place to another, in which sections began and no n-gram was met
 
@@ -106,26 +104,25 @@ module _ {text : List ℕ} {top order₀ at₀ : ℕ} {places₀ : List ℕ} {or
       record { fields = r.fields; at = record { long = r.long; noted = r.noted }; top = top; is = b.is; order_from = b.begun; order_to = omega (arith, g.order_to) }
 
   -- and what becomes of it is known
-  pub going_met : (list : List ℕ) (words : ℕ) (row : List ℤ) (gram : Gram) → (line.count ≡ 1 → ⊥) → top ≤ 3
+  pub going_met : (list : List ℕ) (row : List ℤ) (gram : Gram) → (line.count ≡ 1 → ⊥) → top ≤ 3
       → ((fields : List (List ℕ)) (top : ℕ) → FieldsAt text places line.count fields → is_gram_line top order fields ≡ true → GramIs list (ngram_of order fields) row gram)
-      → MetIs text list (record { top = top; words = words; at = at₀; order = order₀ }) row (record { gram = gram; cursor = record { top = top; words = words; at = line.next; order = order } })
+      → MetIs text list (record { top = top; at = at₀; order = order₀ }) row (record { gram = gram; cursor = record { top = top; at = line.next; order = order } })
   unfolding ngrams_at
-  going_met list words row gram n few said =
+  going_met list row gram n few said =
       let b = ngram_read r top order g.walk n in
       record {
         ngram = ngram_of order r.fields;
         is = said r.fields top (record { long = r.long; noted = r.noted }) b.is;
         first = sym g.same ∙ lines_here r top order g.walk ∙ b.ngrams;
         walking = record { within = r.within; few = few; order_to = g.order_to; walk = b.walk };
-        later = omega (arith, g.from, r.later (line_read r top order g.walk));
-        words_same = refl;
+        later = omega (arith, g.from, r.later);
       }
 
   -- the next section was begun
   pub going_on : length places ≡ length places₀ → line.count ≡ 1 → (order ≡ top → ⊥) → Going text top order₀ at₀ places (order + 1) line.next
   going_on l one n =
       let s = section_read r top order g.walk one n in
-      record { within = r.within; order_to = omega (arith, g.order_to, n); walk = s.0; same = sym s.1 ∙ g.same; long = l ∙ g.long; from = omega (arith, g.from, r.later (line_read r top order g.walk)) }
+      record { within = r.within; order_to = omega (arith, g.order_to, n); walk = s.0; same = sym s.1 ∙ g.same; long = l ∙ g.long; from = omega (arith, g.from, r.later) }
 
 -- ---- how many there are
 

@@ -1,5 +1,5 @@
 -- What the n-grams of an ARPA text add to a book.
-use Rattle.std.specs.Prelude.{ℕ, ◌+◌, ◌≤◌, ◌≡◌, Bool, true, false, ◌&&◌, cond, List, [], map, ℤ, pos, length, take}
+use Rattle.std.specs.Prelude.{ℕ, ◌+◌, ◌≤◌, ◌≡◌, Bool, true, ◌&&◌, List, [], map, ℤ, length, take, Some, None, unwrap_or}
 use Rattle.laws.specs.Lists.{all, keep}
 use Rattle.meaning.specs.Book.{is_score, is_weight}
 use Rattle.arpa.specs.File.{Ngram, is_unknown}
@@ -33,7 +33,7 @@ lines_in list gs = map (imported_line list) (keep is_imported gs)
 
 -- none was met
 abbrev pub begun : Survey → Model
-begun s = record { survey = s; known = true; ranged = true; unknown = false; unseen = pos 0 }
+begun s = record { survey = s; known = true; ranged = true; unseen = None }
 
 -- `<unk>` alone was met, with this value
 unfoldable pub with_unknown : Model → ℤ → Model
@@ -41,8 +41,7 @@ with_unknown m u = record {
   survey = m.survey;
   known = m.known;
   ranged = m.ranged && is_score u;
-  unknown = true;
-  unseen = cond m.unknown m.unseen u;
+  unseen = Some (unwrap_or m.unseen u);
 }
 
 -- the line stands at the row's front
@@ -61,7 +60,6 @@ pub record RowNoted (m : Model) (made : Row) (row : List ℤ) (index₀ tally₀
     survey = with_line m.survey (take made.size row);
     known = m.known && made.known;
     ranged = m.ranged && made.ranged;
-    unknown = m.unknown;
     unseen = m.unseen;
   }
   pub tally_is : tally₁ ≡ with_kind tally₀ (take made.size row)
@@ -82,7 +80,7 @@ NotedAs m (Line made) row index₀ tally₀ r index₁ tally₁ = RowNoted m mad
 
 -- the u of the book whose u is this one, after the n-grams that were met and those that are left
 abbrev pub unseen_from : Model → List Ngram → ℤ → ℤ
-unseen_from m gs u = cond m.unknown m.unseen (unseen_by (keep is_unknown gs) u)
+unseen_from m gs u = unwrap_or m.unseen (unseen_by (keep is_unknown gs) u)
 
 -- a walk has come from the n-grams `gs₀`, and what was known before them, to `gs`: what they answer together is the same
 pub record Carried (list : List ℕ) (gs₀ : List Ngram) (m₀ : Model) (index₀ tally₀ : List ℕ) (gs : List Ngram) (m : Model) (index tally : List ℕ) : Type 0 where

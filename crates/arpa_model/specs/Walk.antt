@@ -1,13 +1,11 @@
 -- The walk over the n-grams of an ARPA text that question 23 has passed.
-use Rattle.std.specs.Prelude.{ℕ, ◌≤◌, ◌<◌, ◌≡◌, true, List, [], ◌∷◌, ℤ, length, drop}
+use Rattle.std.specs.Prelude.{ℕ, ◌≤◌, ◌<◌, ◌≡◌, true, List, [], ◌∷◌, ℤ, length, drop, Option, MatchOption}
 use Rattle.arpa.specs.Lines.{filled_lines}
 use Rattle.arpa.specs.File.{Ngram}
 use Rattle.outline.specs.Outline.{walked, is_walk}
 use Rattle.ngram_lines.specs.Gram.{GramIs}
 use Rattle.arpa_model.specs.declared.walk.Cursor.{Cursor}
 use Rattle.arpa_model.specs.declared.walk.Met.{Met}
-use Rattle.arpa_model.specs.declared.walk.Next.{Next}
-use Rattle.arpa_model.specs.declared.walk.Next.TheVariants.{Gram, End}
 
 -- the n-grams from the cursor on
 unfoldable pub ngrams_at : List ℕ → Cursor → List Ngram
@@ -27,8 +25,7 @@ pub record MetIs (text list : List ℕ) (c : Cursor) (row : List ℤ) (m : Met) 
   pub first : ngrams_at text c ≡ ngram ∷ ngrams_at text m.cursor
   pub walking : Walking text m.cursor
   pub later : c.at < m.cursor.at
-  pub words_same : m.cursor.words ≡ c.words
 
-abbrev pub NextIs : List ℕ → List ℕ → Cursor → List ℤ → Next → Type 0
-NextIs text list c row (Gram m) = MetIs text list c row m
-NextIs text list c row End = ngrams_at text c ≡ []
+-- where there is one
+abbrev pub NextIs : List ℕ → List ℕ → Cursor → List ℤ → Option Met → Type 0
+NextIs text list c row next = MatchOption next (ngrams_at text c ≡ []) (MetIs text list c row)

@@ -1,17 +1,15 @@
 // The n-grams of an ARPA text that question 23 has passed, one at a time.
 ghost use Rattle.std.specs.Prelude.{◌≡◌, ◌≤◌, length};
-ghost use Rattle.spelling.specs.Index.{Spelling};
 ghost use Rattle.arpa_model.specs.Walk.{Walking, NextIs};
 
 use ngram_lines::{Fields, Gram};
+use spelling::WordList;
 use tokens::scan;
 
-// A walk over the n-grams: the text's top order, how many lines the word list has, the place of the next line, and the order of the section that it
-// stands in, 0 before the first.
+// A walk over the n-grams: the text's top order, the place of the next line, and the order of the section that it stands in, 0 before the first.
 #[derive(Clone, Copy)]
 pub struct Cursor {
     pub top: usize,
-    pub words: usize,
     pub at: usize,
     pub order: usize,
 }
@@ -23,56 +21,36 @@ pub struct Met {
     pub cursor: Cursor,
 }
 
-// The next n-gram, or that there is none.
-#[derive(Clone, Copy)]
-pub enum Next {
-    Gram(Met),
-    End,
-}
-
-// The next n-gram from the cursor on; its line, where it has one, is put at the row's front. A line of one field begins a section, or ends the last.
-pub fn next_gram(
-    text: &[u8],
-    cursor: Cursor,
-    list: &[u8],
-    index: &[u16],
-    starts: &[usize],
-    row: &mut [i32],
-) -> Next
+// The next n-gram from the cursor on, where there is one; its line, where it has one, is put at the row's front. A line of one field begins a section, or ends
+// the last.
+pub fn next_gram(text: &[u8], cursor: Cursor, words: &WordList, row: &mut [i32]) -> Option<Met>
     requires walking { Walking text.now cursor }
-    requires spelling { Spelling list.now index.now starts.now cursor.words }
     requires in_bounds { 5 ≤ length row.old }
-    ensures next_is { NextIs text.now list.now cursor row.new result }
+    ensures next_is { NextIs text.now words.now.list.now cursor row.new result }
     ensures row_len_unchanged { length row.new ≡ length row.old }
 {
-    let top = cursor.top;
-    let words = cursor.words;
+    let Cursor {
+        top,
+        mut at,
+        mut order,
+    } = cursor;
     let mut places = [0usize; 10];
-    let mut order = cursor.order;
-    let mut at = cursor.at;
-    while at < text.len() {
-        let line = scan::read_line(text, at, &mut places);
-        let count = line.count;
+    // No iterator: each turn also fills `places`, and goes on behind the line that it read.
+    while let Some(line) = scan::read_line(text, at, &mut places) {
         at = line.next;
-        if count != 1 {
+        if line.count != 1 {
             let fields = Fields {
-                count,
-                order,
-                words,
-            };
-            let gram = ngram_lines::read_gram(text, &places, fields, list, index, starts, row);
-            let cursor = Cursor {
-                top,
-                words,
-                at,
+                count: line.count,
                 order,
             };
-            return Next::Gram(Met { gram, cursor });
+            let gram = ngram_lines::read_gram(text, &places, fields, words, row);
+            let cursor = Cursor { top, at, order };
+            return Some(Met { gram, cursor });
         }
         if order == top {
-            return Next::End;
+            return None;
         }
         order += 1;
     }
-    Next::End
+    None
 }

@@ -2,14 +2,14 @@
 ghost use Rattle.std.specs.Prelude.{◌≡◌, true, ◌+◌, ◌≤◌, length, take};
 ghost use Rattle.laws.specs.Lists.{concat};
 ghost use Rattle.meaning.specs.Reply.{written_over};
-ghost use Rattle.spelling.specs.Index.{Spelling};
 ghost use Rattle.arpa_model.specs.Walk.{Walking, ngrams_at};
 ghost use Rattle.arpa_model.specs.Model.{are_scores_in, lines_in, RowFits};
 ghost use Rattle.arpa_model.specs.Write.{line_of_gram, FitsAt, PutAt};
 
 use crate::walk;
-use crate::walk::{Cursor, Next};
+use crate::walk::Cursor;
 use ngram_lines::{Gram, Row};
+use spelling::WordList;
 
 // Puts the line that stands at the row's front over what stands in the list from `n` on; the place behind it.
 fn put_line(out: &mut [i32], n: usize, made: Row, row: &[i32]) -> usize
@@ -28,36 +28,24 @@ fn put_gram(out: &mut [i32], n: usize, gram: Gram, row: &[i32]) -> usize
     ensures { PutAt out.old n (line_of_gram row.now gram) out.new result }
 {
     match gram {
-        Gram::PassedOver => n,
-        Gram::Unknown(_) => n,
+        Gram::PassedOver | Gram::Unknown(_) => n,
         Gram::Line(made) => put_line(out, n, made, row),
     }
 }
 
 // The lines of all n-grams from the cursor on.
-pub fn write_model(
-    text: &[u8],
-    cursor: Cursor,
-    list: &[u8],
-    index: &[u16],
-    starts: &[usize],
-    out: &mut [i32],
-)
+pub fn write_model(text: &[u8], cursor: Cursor, words: &WordList, out: &mut [i32])
     requires walking { Walking text.now cursor }
-    requires spelling { Spelling list.now index.now starts.now cursor.words }
     requires cursor_value { are_scores_in (ngrams_at text.now cursor) ≡ true }
-    requires cursor_in_bounds { length (concat (lines_in list.now (ngrams_at text.now cursor))) ≤ length out.old }
-    ensures { out.new ≡ written_over (concat (lines_in list.now (ngrams_at text.now cursor))) out.old }
+    requires cursor_in_bounds { length (concat (lines_in words.now.list.now (ngrams_at text.now cursor))) ≤ length out.old }
+    ensures { out.new ≡ written_over (concat (lines_in words.now.list.now (ngrams_at text.now cursor))) out.old }
 {
     let mut row = [0i32; 5];
     let mut n = 0;
     let mut from = cursor;
-    while from.at < text.len() {
-        let Next::Gram(met) = walk::next_gram(text, from, list, index, starts, &mut row) else {
-            return;
-        };
-        let gram = met.gram;
-        n = put_gram(out, n, gram, &row);
+    // No iterator: each turn also fills `row`, and goes on from the cursor that it got.
+    while let Some(met) = walk::next_gram(text, from, words, &mut row) {
+        n = put_gram(out, n, met.gram, &row);
         from = met.cursor;
     }
 }

@@ -1,10 +1,10 @@
 -- A survey of lines holds what questions 3 to 5 ask of them: its tests are the lines' tests, and its tally has the lines' counts.
-use Prim.Native.Nat.{ℕ, zero, suc, ◌+◌, ◌-◌, ◌≤◌, ◌<◌}
+use Prim.Native.Nat.{ℕ, zero, suc, ◌+◌, ◌≤◌, ◌<◌}
 use native.Mathlib.Omega.{arith}
 use mathlib.Core.Path.{◌≡◌, refl, sym, ◌∙◌, ap}
 use mathlib.Core.Bool.{Bool, true, false, not, cond, ◌&&◌, and_assoc}
 use mathlib.Core.List.{List, [], ◌∷◌, map}
-use borrow.Author.Tests.{le-leb, lt-leb, eqb-true, eqb-false, eq-eqb, ne_eqb}
+use borrow.Author.Tests.{eqb-true, eqb-false, eq-eqb, ne_eqb}
 use lib.Dec.{eqb, leb}
 use lib.IntN.{ℤ, pos}
 use lib.ListN.{length, get_or, drop, replicate, length-set, length-drop}
@@ -12,15 +12,15 @@ use lib.Seq.{get_or-set_same, get_or-set_other}
 use Rattle.laws.specs.Bits.{one}
 use Rattle.laws.specs.Integers.{eqℤ}
 use Rattle.laws.specs.Lists.{all, any, count, numbers_from}
-use Rattle.laws.proofs.Lists.{count_cons, count_none, drop_next, numbers_first}
+use Rattle.laws.proofs.Lists.{count_cons, count_none, drop_next}
 use Rattle.laws.proofs.Order.{yes_≡}
 use Rattle.laws.proofs.Tests.{same_test, by_test}
 use Rattle.meaning.specs.Questions.{◌unless◌, ◌orelse◌}
 use Rattle.meaning.specs.Book.{Form, Kind, kinds, is_kind, is_b, is_t, is_u, is_d, is_whole, are_few, is_one_bFirst, is_in_range, is_not_too_long, is_counted, is_no_triple_twice, is_no_shorter_twice, lines_refusal, number_at, order_of, is_gram}
-use Rattle.lines.specs.Kinds.{kind_of, most_of}
+use Rattle.lines.specs.Kinds.{kind_of}
 use Rattle.lines.proofs.Lines.{row_known, kind_row}
 use Rattle.book.specs.declared.survey.Survey.{Survey}
-use Rattle.book.specs.Survey.{fresh, with_line, survey_from, tally_size, no_tally, with_kind, tally_from, gram_count, is_few, are_all_few, survey_refusal, Few}
+use Rattle.book.specs.Survey.{fresh, with_line, survey_from, tally_size, no_tally, with_kind, tally_from, gram_count, are_all_few, survey_refusal, Few}
 
 -- ---- the tally
 
@@ -168,42 +168,6 @@ survey_refusal_lem form lines w =
 pub broken_refusal : (form : Form) (lines : List (List ℤ)) → all (is_whole form) lines ≡ false → lines_refusal form lines ≡ 2
 unfolding lines_refusal
 broken_refusal form lines w = rw w
-
--- the questions, asked one after the other
-module _ (s : Survey) (tally : List ℕ) where
-  pub refusal_three : s.headed && eqb (get_or tally 1 0) 1 ≡ false → 3 ≡ survey_refusal s tally
-  unfolding survey_refusal
-  refusal_three h = rw h
-
-  pub refusal_four : s.headed && eqb (get_or tally 1 0) 1 ≡ true → s.ranged ≡ false → 4 ≡ survey_refusal s tally
-  unfolding survey_refusal
-  refusal_four h k = rw (h, k)
-
-  pub refusal_five : s.headed && eqb (get_or tally 1 0) 1 ≡ true → s.ranged ≡ true → are_all_few tally ≡ false → 5 ≡ survey_refusal s tally
-  unfolding survey_refusal
-  refusal_five h k l = rw (h, k, l)
-
-  pub refusal_none : s.headed && eqb (get_or tally 1 0) 1 ≡ true → s.ranged ≡ true → are_all_few tally ≡ true → 0 ≡ survey_refusal s tally
-  unfolding survey_refusal
-  refusal_none h k l = rw (h, k, l)
-
--- the rows from the second on, asked one after the other
-module _ (tally : List ℕ) where
-  -- how the rows from number k on answer
-  abbrev pub few_from : ℕ → Bool
-  few_from k = all (is_few tally) (numbers_from k (tally_size - k))
-
-  few_split : (k : ℕ) → k ≤ length kinds → few_from k ≡ is_few tally k && few_from (k + 1)
-  few_split k h = ap (all (is_few tally)) (numbers_first k (tally_size - k) (omega arith)) ∙ (let z : (tally_size - k) - 1 ≡ tally_size - (k + 1) = omega arith in rw z)
-
-  pub few_fails : (k : ℕ) → k ≤ length kinds → most_of k < get_or tally k 0 → few_from k ≡ false
-  few_fails k h m = few_split k h ∙ rw (lt-leb (get_or tally k 0) (most_of k) m)
-
-  pub few_next : (k : ℕ) → k ≤ length kinds → get_or tally k 0 ≤ most_of k → few_from k ≡ few_from (k + 1)
-  few_next k h m = few_split k h ∙ rw (le-leb (get_or tally k 0) (most_of k) m)
-
-  pub few_end : (k : ℕ) → length kinds < k → few_from k ≡ true
-  few_end k h = let z : suc (length kinds) - k ≡ 0 = omega arith in rw z
 
 -- ---- one line more is one more of each count at most
 

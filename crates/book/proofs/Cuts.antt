@@ -14,7 +14,10 @@ use Rattle.laws.specs.Lists.{all, count, eq_list}
 use Rattle.laws.proofs.Tests.{by_test, both, clash}
 use Rattle.meaning.specs.Book.{in_list, number_at, is_b, is_p, is_t, size_of, is_whole, is_one_bFirst, stored_counts, is_counted, cut_lines, loaded_lines}
 use Rattle.meaning.proofs.Sizes.{size_from}
+use Rattle.std.proofs.Common.{Some, None}
+use Rattle.std.specs.Borrow.{Bor}
 use Rattle.book.specs.Loaded.{size_at}
+use Rattle.book.specs.Lines.{Passes}
 
 -- ---- the size
 
@@ -140,6 +143,22 @@ line_broken loaded at h e =
 pub line_here : (loaded : List ℤ) (at size : ℕ) → all (is_whole in_list) (loaded_lines (drop at loaded)) ≡ true → at < length loaded → size ≡ size_at loaded at → LineAt loaded at size
 line_here loaded at zero w h e = clash w (line_broken loaded at h e)
 line_here loaded at (suc size) w h e = line_at loaded at (suc size) h e (omega arith)
+
+-- ---- a step of the walk over the lines
+
+-- a line that was passed stands there whole
+pub passed_line : {list loaded : List ℤ} {at next : ℕ} (place : ℕ) (line : Bor (List ℤ)) → list ≡ loaded → Passes list at (Some (place, line)) next
+    → LineAt loaded at (size_at loaded at) × (place ≡ at) × (line.now ≡ take (size_at loaded at) (drop at loaded)) × (next ≡ at + size_at loaded at)
+unfolding size_at
+passed_line {list} {loaded} {at} place line e p =
+    let q = rw e at p in
+    (line_at loaded at (size_at loaded at) (by_test (leb (size_of in_list (drop at loaded)) (length loaded - at)) (λ t. let z = leb-true _ _ t in let h = rw t at q.0 in omega arith) (λ f. absurd (let h = rw f at q.0 in omega arith))) refl (λ z. let h = q.0 in omega arith), q.1, q.2, q.3)
+
+-- where all lines are whole, the walk ends behind the last
+pub passed_all : {list loaded : List ℤ} {at next : ℕ} → list ≡ loaded → Passes list at None next → all (is_whole in_list) (loaded_lines (drop at loaded)) ≡ true → length loaded ≤ at
+passed_all {list} {loaded} {at} e p w =
+    by_test (leb (length loaded) at) (leb-true (length loaded) at)
+    (λ f. absurd (let l = line_here loaded at (size_at loaded at) w (leb-false (length loaded) at f) refl in omega (arith, l.some, rw e at p.0)))
 
 -- ---- its numbers, read in the list
 

@@ -4,7 +4,7 @@ use native.Mathlib.Omega.{arith}
 use mathlib.Core.Path.{◌≡◌, refl, sym, ◌∙◌, ap}
 use mathlib.Core.Bool.{true, false, ◌&&◌, cond}
 use mathlib.Core.List.{List, [], ◌∷◌}
-use borrow.Author.Tests.{eqb-true}
+use borrow.Author.Tests.{eqb-true, ne_eqb}
 use lib.Dec.{eqb}
 use lib.IntN.{ℤ, pos}
 use lib.ListN.{length, take, drop, drop_of_length-le}
@@ -17,7 +17,8 @@ use Rattle.laws.proofs.Tests.{by_test, both}
 use Rattle.meaning.specs.Book.{in_list, number_at, natural_at, is_p, is_phrase_length, size_of, is_whole, loaded_lines, Part, target_part_from, part_of, book_refusal, target_part}
 use Rattle.meaning.proofs.Ranges.{lines_passed}
 use Rattle.book.specs.declared.target.Part.{Part as Found}
-use Rattle.book.specs.Target.{entry_from, EntryFound, IsPart}
+use Rattle.std.proofs.Common.{Some, None}
+use Rattle.book.specs.Target.{entry_from, EntryHere, NoEntry, IsPart}
 use Rattle.book.proofs.Cuts.{LineAt, lines_end, line_number, kind_same, line_long}
 
 -- a whole P line at `at` has a + b + 4 numbers
@@ -50,7 +51,7 @@ part_end : (k at : ℕ) → target_part_from k at [] ≡ record { start = at; si
 unfolding target_part_from
 part_end k at = refl
 
-place_here : (k at : ℕ) (line : List ℤ) (lines : List (List ℤ)) → is_p line && eqb k 1 ≡ true → entry_from k at (line ∷ lines) ≡ at
+place_here : (k at : ℕ) (line : List ℤ) (lines : List (List ℤ)) → is_p line && eqb k 1 ≡ true → entry_from k at (line ∷ lines) ≡ Some at
 unfolding entry_from
 place_here k at line lines e = rw e
 
@@ -58,7 +59,7 @@ place_next : (k at : ℕ) (line : List ℤ) (lines : List (List ℤ)) → is_p l
 unfolding entry_from
 place_next k at line lines e = rw e
 
-place_end : (k at : ℕ) → entry_from k at [] ≡ at
+place_end : (k at : ℕ) → entry_from k at [] ≡ None
 unfolding entry_from
 place_end k at = refl
 
@@ -69,30 +70,25 @@ pub record Sought (loaded : List ℤ) (entry left at : ℕ) : Type 0 where
   pub same : target_part_from left at (loaded_lines (drop at loaded)) ≡ target_part_from entry 0 (loaded_lines loaded)
   pub place : entry_from left at (loaded_lines (drop at loaded)) ≡ entry_from entry 0 (loaded_lines loaded)
 
-pub sought_start : (loaded : List ℤ) (entry : ℕ) → all (is_whole in_list) (loaded_lines loaded) ≡ true → Sought loaded entry entry 0
-sought_start loaded entry w = record { inside = omega arith; whole = w; same = refl; place = refl }
-
 module _ {loaded : List ℤ} {entry left at size : ℕ} (f : Sought loaded entry left at) (l : LineAt loaded at size) where
   -- the line's kind, in the list and by itself
   kind : is_p (take size (drop at loaded)) ≡ is_p (drop at loaded)
   kind = kind_same loaded at size l
 
-  pub sought_here : is_p (drop at loaded) && eqb left 1 ≡ true → EntryFound loaded entry at
-  sought_here e =
+  pub sought_here : is_p (drop at loaded) ≡ true → left ≡ 1 → EntryHere loaded entry at
+  sought_here p q =
+      let e : is_p (drop at loaded) && eqb left 1 ≡ true = rw (p, q) in
       let n = phrase_here loaded at size left l e in
       let h = l.inside in
-      let m = l.some in
       record {
         place_is = sym (sym f.place ∙ ap (entry_from left at) l.lines ∙ place_here left at (take size (drop at loaded)) _ (rw kind e));
-        within = f.inside;
-        room = λ k. omega arith;
-        target = λ k.
+        room = omega arith;
+        target =
             sym f.same ∙ ap (target_part_from left at) l.lines ∙ part_here left at (take size (drop at loaded)) _ (rw kind e)
             ∙ rw (line_number loaded at size 1 (omega arith), line_number loaded at size 2 (omega arith));
-        none = λ k. absurd (omega arith);
       }
 
-  pub sought_next : is_p (drop at loaded) && eqb left 1 ≡ false → Sought loaded entry (cond (is_p (drop at loaded)) (left - 1) left) (at + size)
+  sought_next : is_p (drop at loaded) && eqb left 1 ≡ false → Sought loaded entry (cond (is_p (drop at loaded)) (left - 1) left) (at + size)
   sought_next e =
       record {
         inside = l.inside;
@@ -101,15 +97,20 @@ module _ {loaded : List ℤ} {entry left at size : ℕ} (f : Sought loaded entry
         place = sym (sym f.place ∙ ap (entry_from left at) l.lines ∙ place_next left at (take size (drop at loaded)) _ (rw kind e) ∙ rw (kind, line_long loaded at size l));
       }
 
-pub sought_end : {loaded : List ℤ} {entry left at : ℕ} → Sought loaded entry left at → length loaded ≤ at → EntryFound loaded entry at
+  -- a line that is not the one: of another kind, or a P line before it
+  pub sought_other : is_p (drop at loaded) ≡ false → Sought loaded entry left (at + size)
+  sought_other p = rw p at (sought_next (rw p))
+
+  pub sought_later : is_p (drop at loaded) ≡ true → (left ≡ 1 → ⊥) → Sought loaded entry (left - 1) (at + size)
+  sought_later p n = rw p at (sought_next (rw (p, ne_eqb left 1 n)))
+
+pub sought_end : {loaded : List ℤ} {entry left at : ℕ} → Sought loaded entry left at → length loaded ≤ at → NoEntry loaded entry
 sought_end {loaded} {entry} {left} {at} f h =
     let none : loaded_lines (drop at loaded) ≡ [] = ap loaded_lines (drop_of_length-le loaded h) ∙ lines_end in
+    let z : at ≡ length loaded = omega (arith, f.inside) in
     record {
-      place_is = sym (sym f.place ∙ ap (entry_from left at) none ∙ place_end left at);
-      within = f.inside;
-      room = λ k. absurd (omega arith);
-      target = λ k. absurd (omega arith);
-      none = λ k. sym f.same ∙ ap (target_part_from left at) none ∙ part_end left at;
+      no_place = sym (sym f.place ∙ ap (entry_from left at) none ∙ place_end left at);
+      no_target = sym f.same ∙ ap (target_part_from left at) none ∙ part_end left at ∙ rw z;
     }
 
 -- the part that was found, as code takes it

@@ -1,4 +1,5 @@
 -- A survey's walk: what is known of the lines passed, with the lines that are left, is what is known of all lines.
+use Rattle.std.specs.declared.option.Option.TheVariants.{Some}
 use Prim.Native.Nat.{ℕ, ◌+◌, ◌≤◌}
 use native.Mathlib.Omega.{arith}
 use mathlib.Core.Path.{◌≡◌, refl, sym, ◌∙◌, ap}
@@ -10,7 +11,6 @@ use Rattle.meaning.specs.Book.{in_list, is_whole, loaded_lines}
 use Rattle.book.specs.declared.survey.Survey.{Survey}
 use Rattle.book.specs.Survey.{fresh, with_line, survey_from, tally_size, no_tally, with_kind, tally_from, gram_count, Few}
 use Rattle.book.specs.Loaded.{SurveyOf}
-use Rattle.book.specs.declared.loaded.Surveyed.TheVariants.{Whole}
 use Rattle.book.specs.Grams.{with_gram, grams_from}
 use Rattle.book.proofs.Counts.{gram_counted, few_none, few_line, few_more}
 use Rattle.book.proofs.Gathered.{gram_long}
@@ -64,7 +64,7 @@ walk_next {loaded} {index₀} {tally} {index} {acc} {at} {size} w l =
       asked = sym (ap (all (is_whole in_list)) l.lines ∙ rw l.whole) ∙ w.asked;
     }
 
-pub walk_end : {loaded : List ℤ} {index₀ tally index : List ℕ} {acc : Survey} {at : ℕ} → Walked loaded index₀ acc tally index at → length loaded ≤ at → SurveyOf loaded index₀ index tally (Whole acc)
+pub walk_end : {loaded : List ℤ} {index₀ tally index : List ℕ} {acc : Survey} {at : ℕ} → Walked loaded index₀ acc tally index at → length loaded ≤ at → SurveyOf loaded index₀ index tally (Some acc)
 walk_end {loaded} {index₀} {tally} {index} {acc} {at} w h =
     let none : loaded_lines (drop at loaded) ≡ [] = ap loaded_lines (drop_of_length-le loaded h) ∙ lines_end in
     let all_seen = seen_all w.seen none in

@@ -5,6 +5,7 @@ ghost use Rattle.meaning.specs.Book.{is_p, book_refusal};
 ghost use Rattle.book.specs.Entries.{entry_halves, index_size, entry_place, with_place, Placed};
 
 use crate::loaded;
+use crate::loaded::Lines;
 
 // How many entries there may be, where their places begin, two halves each, and how long the list is with them.
 pub const ENTRIES_MOST: usize = lines::PHRASES_MOST;
@@ -30,9 +31,10 @@ fn put_place(book: &[i32], at: usize, index: &mut [u16], count: usize) -> usize
 {
     if loaded::is_entry_at(book, at) {
         halves::put_whole(index, ENTRIES + 2 * count, at);
-        return count + 1;
+        count + 1
+    } else {
+        count
     }
-    count
 }
 
 // Where each P line of a book that passed 2 to 6 stands, in their order, noted in the list's last part; how many there
@@ -43,10 +45,8 @@ pub fn find_entries(book: &[i32], index: &mut [u16]) -> usize
     ensures { Placed book.now index.old index.new result }
 {
     let mut count = 0;
-    let mut at = 0;
-    while at < book.len() {
+    for (at, _) in Lines::new(book) {
         count = put_place(book, at, index, count);
-        at += loaded::size_at(book, at);
     }
     count
 }

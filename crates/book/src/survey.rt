@@ -1,11 +1,11 @@
 // What questions 3 to 5 ask of all the lines of a book, gathered one line at a time. The lines of a text and those of a
-// loaded list pass through the same functions. How many lines there are of each kind is a lent list, the tally, with a number
-// for each row of the table of kinds and, as number 0, one for what is of no kind.
-ghost use Rattle.std.specs.Prelude.{◌≡◌, ◌&&◌, cond, ℕ, ◌^◌, ◌≤◌, ◌<◌, eqb, length, get_or};
-ghost use Rattle.book.specs.Survey.{fresh, with_line, tally_size, with_kind, shorter_count, gram_count, are_all_few, lines_most, survey_refusal};
+// loaded list pass through the same functions. How many lines there are of each kind is the tally.
+ghost use Rattle.std.specs.Prelude.{◌≡◌, ◌&&◌, eqb, List, ℕ, ◌^◌, ◌≤◌, ◌<◌, get_or};
+ghost use Rattle.ngrams.specs.Grams.{number_or0};
+ghost use Rattle.book.specs.Survey.{fresh, with_line, no_tally, with_kind, shorter_count, gram_count, are_all_few, lines_most, survey_refusal};
 
-// How long the tally is.
-pub const TALLY_SIZE: usize = lines::KINDS + 1;
+use meaning::Refusal;
+use std::marker::Model;
 
 // What is known of the lines seen so far, beside the tally: how many they are, whether the first is a B line, and whether every
 // number is in its range.
@@ -31,86 +31,130 @@ pub fn fresh() -> Survey
 pub fn and_also(a: bool, b: bool) -> bool
     ensures { result ≡ a && b }
 {
-    if a { b } else { false }
+    a && b
 }
 
-// What the first line said, which no later line changes.
-fn of_first(lines: usize, here: bool, before: bool) -> bool
-    ensures { result ≡ cond (eqb lines 0) here before }
-{
-    if lines == 0 { here } else { before }
-}
-
-// One line more.
+// One line more. What the first line said, no later line changes.
+#[tactic(auto, unfolding(crate::specs::Survey::with_line))]
 pub fn with_line(acc: Survey, line: &[i32]) -> Survey
     requires { acc.lines ≤ lines_most }
     ensures { result ≡ with_line acc line.now }
 {
-    let b = lines::is_kind(line, 1);
-    let ranged = lines::is_in_range(line);
+    let headed = if acc.lines == 0 {
+        lines::is_kind(line, 1)
+    } else {
+        acc.headed
+    };
     Survey {
         lines: acc.lines + 1,
-        headed: of_first(acc.lines, b, acc.headed),
-        ranged: and_also(acc.ranged, ranged),
+        headed,
+        ranged: acc.ranged && lines::is_in_range(line),
     }
 }
 
-// One line more in the tally.
-pub fn count_line(tally: &mut [usize], line: &[i32])
-    requires tally_len { length tally.old ≡ tally_size }
-    requires by_index { (k : ℕ) → get_or tally.old k 0 ≤ lines_most }
-    ensures { tally.new ≡ with_kind tally.old line.now }
-{
-    let k = lines::kind_of(line);
-    tally[k] += 1;
+// How many lines there are of each kind: a number for each row of the table of kinds and, as number 0, one for what is of no kind.
+#[derive(Drop)]
+pub struct Tally {
+    counts: [usize; lines::KINDS + 1],
 }
 
-// How many of the lines list a pair or a word: U and D lines.
-pub fn shorter_count(tally: &[usize]) -> usize
-    requires tally_len { length tally.now ≡ tally_size }
-    requires tally_bound { shorter_count tally.now < 2 ^ 64 }
-    ensures { result ≡ shorter_count tally.now }
-{
-    tally[4] + tally[5]
+impl Model for Tally {
+    ghost Value = { List ℕ };
+
+    ghost view = { λ t. t.counts };
 }
 
-// How many list an n-gram: those, and T lines.
-pub fn gram_count(tally: &[usize]) -> usize
-    requires tally_len { length tally.now ≡ tally_size }
-    requires tally_bound { gram_count tally.now < 2 ^ 64 }
-    ensures { result ≡ gram_count tally.now }
-{
-    tally[3] + shorter_count(tally)
-}
-
-// Question 5: no more of each kind from the second row on than the row allows.
-fn are_all_few(tally: &[usize]) -> bool
-    requires { length tally.now ≡ tally_size }
-    ensures { result ≡ are_all_few tally.now }
-{
-    let mut k = 2;
-    while k <= lines::KINDS {
-        if lines::most_of(k) < tally[k] {
-            return false;
+impl Tally {
+    // No line was seen.
+    pub fn new() -> Tally
+        ensures { result ≡ no_tally }
+    {
+        Tally {
+            counts: [0; lines::KINDS + 1],
         }
-        k += 1;
     }
-    true
+
+    // One line more.
+    #[tactic(auto, using(lines::proofs::Lines::row_known), unfolding(crate::specs::Survey::with_kind))]
+    pub fn count(&mut self, line: &[i32])
+        requires { (k : ℕ) → get_or self.old k 0 ≤ lines_most }
+        ensures { self.new ≡ with_kind self.old line.now }
+    {
+        self.counts[lines::kind_of(line)] += 1;
+    }
+
+    // How many P lines there are.
+    pub fn phrases(&self) -> usize
+        ensures { result ≡ get_or self.now 2 0 }
+    {
+        self.counts[2]
+    }
+
+    // How many T lines.
+    pub fn triples(&self) -> usize
+        ensures { result ≡ get_or self.now 3 0 }
+    {
+        self.counts[3]
+    }
+
+    // How many U lines.
+    pub fn words(&self) -> usize
+        ensures { result ≡ get_or self.now 4 0 }
+    {
+        self.counts[4]
+    }
+
+    // How many D lines.
+    pub fn pairs(&self) -> usize
+        ensures { result ≡ get_or self.now 5 0 }
+    {
+        self.counts[5]
+    }
+
+    // How many of the lines list a pair or a word: U and D lines.
+    pub fn shorter(&self) -> usize
+        requires { shorter_count self.now < 2 ^ 64 }
+        ensures { result ≡ shorter_count self.now }
+    {
+        self.words() + self.pairs()
+    }
+
+    // How many list an n-gram: those, and T lines.
+    pub fn grams(&self) -> usize
+        requires { gram_count self.now < 2 ^ 64 }
+        ensures { result ≡ gram_count self.now }
+    {
+        self.triples() + self.shorter()
+    }
+
+    // Whether there is one B line.
+    fn has_one_b(&self) -> bool
+        ensures { result ≡ eqb (get_or self.now 1 0) 1 }
+    {
+        self.counts[1] == 1
+    }
+
+    // Question 5: no more of each kind from the second row on than the row allows.
+    fn are_all_few(&self) -> bool
+        ensures { result ≡ are_all_few self.now }
+    {
+        (2..=lines::KINDS).all(|k| self.counts[k] <= lines::most_of(k))
+    }
 }
 
-// The first of questions 3 to 5 that the lines do not pass, or 0.
-pub fn refusal_of(s: Survey, tally: &[usize]) -> usize
-    requires { length tally.now ≡ tally_size }
-    ensures { result ≡ survey_refusal s tally.now }
+// The first of questions 3 to 5 that the lines do not pass, or none.
+#[tactic(auto, unfolding(crate::specs::Survey::survey_refusal))]
+pub fn refusal_of(s: Survey, tally: &Tally) -> Option<Refusal>
+    ensures { number_or0 result ≡ survey_refusal s tally.now }
 {
-    if !and_also(s.headed, tally[1] == 1) {
-        return 3;
+    if !(s.headed && tally.has_one_b()) {
+        return Some(Refusal::BLine);
     }
     if !s.ranged {
-        return 4;
+        return Some(Refusal::NumberRange);
     }
-    if !are_all_few(tally) {
-        return 5;
+    if !tally.are_all_few() {
+        return Some(Refusal::LineCount);
     }
-    0
+    None
 }

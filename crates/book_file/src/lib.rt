@@ -12,15 +12,11 @@ fn read_full<R: Read>(from: &mut R, text: &mut [u8]) -> usize
     ensures { (result ≤ length text.new) × (result ≡ length (take result text.new)) }
 {
     let mut done: usize = 0;
+    // No range: a read gives as many bytes as it has.
     while done < text.len() {
         match from.read(&mut text[done..]) {
-            Ok(n) => {
-                if n == 0 {
-                    return done;
-                }
-                done += n;
-            }
-            Err(_) => return done,
+            Ok(0) | Err(_) => break,
+            Ok(n) => done += n,
         }
     }
     done
@@ -31,10 +27,7 @@ pub fn read_book(rt: &impl Files, text: &mut [u8]) -> usize
     ensures { (result ≤ length text.new) × (result ≡ length (take result text.new)) }
 {
     match fs::open(rt, "book.txt") {
-        Ok(file) => {
-            let mut from = file;
-            read_full(&mut from, text)
-        }
+        Ok(mut file) => read_full(&mut file, text),
         Err(_) => 0,
     }
 }

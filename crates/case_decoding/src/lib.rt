@@ -1,29 +1,21 @@
 // Calls 5, 6 and 8: scoring and decoding with step records, and the rendering.
 #![tactic(auto)]
 
-use case_line::line;
-use case_line::line::Number;
-use case_records::decoding::Asked;
-use case_records::{decoding, proposing};
+use case_fill::NO_STEP;
+use case_line::line::Line;
+use case_records::decoding;
 use case_reply::{reply, say};
-use meaning::Step;
+use meaning::{Answer, Refusal, Step};
 use std::io;
 
 // 5: the book, the direction and the steps.
-pub fn score(rt: &impl Print, text: &[u8], at: usize) -> io::Result<()> {
+pub fn score(rt: &impl Print, line: &mut Line) -> io::Result<()> {
     let mut book = [0i32; 140000];
     let mut direction = [0u16; 128];
-    let row = line::book(text, at, &mut book);
-    let n = row.count;
-    let words = line::direction(text, row.end, &mut direction);
-    let m = words.count;
-    let taken = line::take_steps(text, words.end);
-    let count = taken.count;
-    let steps = taken.steps;
-    reply::scored(
-        rt,
-        proposing::ask(&book[..n], &direction[..m], steps, count),
-    )
+    let mut steps = [NO_STEP; 1100];
+    let book = line.list(&mut book);
+    let direction = line.list(&mut direction);
+    reply::scored(rt, phrase::score(book, direction, line.steps(&mut steps)))
 }
 
 // What is asked of a decode beside the book and the direction: the width, how many places of
@@ -31,25 +23,22 @@ pub fn score(rt: &impl Print, text: &[u8], at: usize) -> io::Result<()> {
 #[derive(Clone, Copy)]
 struct Wish {
     width: i64,
-    room: Number,
-    words: Number,
-    store: Number,
+    steps: usize,
+    words: usize,
+    store: usize,
     fill: u16,
 }
 
-// The wish at `at`.
-fn wish_of(text: &[u8], at: usize) -> Wish {
-    let width = line::take_number(text, at);
-    let room = line::take_number(text, width.end);
-    let words = line::take_number(text, room.end);
-    let store = line::take_number(text, words.end);
-    let fill = line::take_number(text, store.end);
-    Wish {
-        width: line::as_i64(width),
-        room,
-        words,
-        store,
-        fill: line::as_u16(fill),
+impl Wish {
+    // The wish that the line goes on with.
+    fn read(line: &mut Line) -> Wish {
+        Wish {
+            width: line.read(),
+            steps: line.read(),
+            words: line.read(),
+            store: line.read(),
+            fill: line.read(),
+        }
     }
 }
 
@@ -58,19 +47,19 @@ fn ask(
     book: &[i32],
     direction: &[u16],
     wish: Wish,
-    steps: [Step; 1100],
+    steps: &mut [Step],
     words: &mut [u16],
     store: &mut [i64],
-) -> Asked {
-    let room = line::at_most(wish.room, 1100);
-    let w = line::at_most(wish.words, words.len());
-    let s = line::at_most(wish.store, store.len());
+) -> Result<Answer, Refusal> {
+    let n = wish.steps.min(steps.len());
+    let w = wish.words.min(words.len());
+    let s = wish.store.min(store.len());
     decoding::ask(
         book,
         direction,
         wish.width,
         steps,
-        room,
+        n,
         &mut words[..w],
         &mut store[..s],
     )
@@ -79,43 +68,37 @@ fn ask(
 // The decode, in lists that are full of garbage.
 fn decode_with(rt: &impl Print, book: &[i32], direction: &[u16], wish: Wish) -> io::Result<()> {
     let fill = wish.fill;
+    let mut steps = [NO_STEP; 1100];
     let mut words = [0u16; 2000];
     let mut store = [0i64; 33000];
-    let steps = case_fill::steps(fill);
-    case_fill::words(&mut words, fill);
-    case_fill::numbers(&mut store, fill);
-    let asked = ask(book, direction, wish, steps, &mut words, &mut store);
-    let answer = asked.reply;
-    let after = asked.steps;
+    case_fill::fill(&mut steps, fill);
+    case_fill::fill(&mut words, fill);
+    case_fill::fill(&mut store, fill);
+    let answer = ask(book, direction, wish, &mut steps, &mut words, &mut store);
     reply::decoded(rt, answer)?;
-    case_show::steps(rt, after, fill)?;
-    case_show::words(rt, b" words", &words, fill)?;
-    case_show::numbers(rt, b" store", &store, fill)
+    case_show::list(rt, " steps", &steps, fill)?;
+    case_show::list(rt, " words", &words, fill)?;
+    case_show::list(rt, " store", &store, fill)
 }
 
 // 6: the book, the direction, and the wish.
-pub fn decode(rt: &impl Print, text: &[u8], at: usize) -> io::Result<()> {
+pub fn decode(rt: &impl Print, line: &mut Line) -> io::Result<()> {
     let mut book = [0i32; 140000];
     let mut direction = [0u16; 128];
-    let row = line::book(text, at, &mut book);
-    let n = row.count;
-    let words = line::direction(text, row.end, &mut direction);
-    let m = words.count;
-    decode_with(rt, &book[..n], &direction[..m], wish_of(text, words.end))
+    let book = line.list(&mut book);
+    let direction = line.list(&mut direction);
+    decode_with(rt, book, direction, Wish::read(line))
 }
 
 // 8: the bytes of a book's text and of a direction's, and the number that the first place of what is printed holds.
-pub fn render(rt: &impl Print, text: &[u8], at: usize) -> io::Result<()> {
+pub fn render(rt: &impl Print, line: &mut Line) -> io::Result<()> {
     let mut book = [0u8; 8193];
     let mut direction = [0u8; 513];
-    let row = line::bytes(text, at, &mut book);
-    let n = row.count;
-    let words = line::bytes(text, row.end, &mut direction);
-    let m = words.count;
-    let fill = line::as_u16(line::take_number(text, words.end));
     let mut out = [0u8; 4096];
-    case_fill::bytes(&mut out, fill);
-    let count = rendering::render(&book[..n], &direction[..m], &mut out);
-    say::count(rt, count)?;
-    case_show::out(rt, &out, fill)
+    let book = line.list(&mut book);
+    let direction = line.list(&mut direction);
+    let fill: u16 = line.read();
+    case_fill::fill(&mut out, fill);
+    say::count(rt, rendering::render(book, direction, &mut out))?;
+    case_show::list(rt, " out", &out, fill)
 }

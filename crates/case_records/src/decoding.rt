@@ -1,30 +1,22 @@
 // A list of step records, lent to decode into.
-ghost use Rattle.std.specs.Prelude.{◌≡◌, ◌≤◌, take, drop};
+ghost use Rattle.std.specs.Prelude.{◌≡◌, ◌≤◌, length, take, drop};
 ghost use Rattle.meaning.specs.Reply.{Decodes};
 
-use meaning::{Decoded, Step};
+use meaning::{Answer, Refusal, Step};
 
-// What decoding replies, and the steps afterwards.
-#[derive(Clone, Copy)]
-pub struct Asked {
-    pub reply: Decoded,
-    pub steps: [Step; 1100],
-}
-
-// The reply with the first `room` of the steps lent, and the steps afterwards.
+// The reply with the first `room` of the steps lent; the others are as before.
 pub fn ask(
     book: &[i32],
     direction: &[u16],
     width: i64,
-    steps: [Step; 1100],
+    steps: &mut [Step],
     room: usize,
     words: &mut [u16],
     store: &mut [i64],
-) -> Asked
-    requires { room ≤ 1100 }
-    ensures { (Decodes book.now direction.now width (take room steps) (take room result.steps) words.old words.new store.old store.new result.reply) × (drop room result.steps ≡ drop room steps) }
+) -> Result<Answer, Refusal>
+    requires { room ≤ length steps.old }
+    ensures decodes { Decodes book.now direction.now width (take room steps.old) (take room steps.new) words.old words.new store.old store.new result }
+    ensures others { drop room steps.new ≡ drop room steps.old }
 {
-    let mut lent = steps;
-    let reply = phrase::decode(book, direction, width, &mut lent[..room], words, store);
-    Asked { reply, steps: lent }
+    phrase::decode(book, direction, width, &mut steps[..room], words, store)
 }

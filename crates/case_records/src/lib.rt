@@ -1,6 +1,5 @@
-// The calls with step records, asked with a part of an array of them on loan.
+// The calls with step records, asked with the first of a list of them on loan.
 #![tactic(auto)]
 
 pub mod decoding;
-pub mod proposing;
 pub mod rounding;

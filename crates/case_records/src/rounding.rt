@@ -1,83 +1,72 @@
 // A list of step records, lent to decode a round into.
-ghost use Rattle.std.specs.Prelude.{◌≡◌, ◌≤◌, drop};
+ghost use Rattle.std.specs.Prelude.{◌≡◌, ◌≤◌, length, drop};
 
-use meaning::{Checked, Read, Step};
+use meaning::{Refusal, Step};
 
-// The width, and how many of the steps are lent.
+// What is asked of a round: the book, the directions, their ends and the width.
 #[derive(Clone, Copy)]
-pub struct Asking {
+pub struct Round<'a> {
+    pub book: &'a [i32],
+    pub directions: &'a [u16],
+    pub ends: &'a [usize],
     pub width: i64,
-    pub room: usize,
 }
 
-// What the round replies, and the steps afterwards.
-#[derive(Clone, Copy)]
-pub struct AskedRound {
-    pub reply: Checked,
-    pub steps: [Step; 1100],
+// The lists that are lent beside the steps.
+#[derive(Drop)]
+pub struct Lent<'a> {
+    pub words: &'a mut [u16],
+    pub store: &'a mut [i64],
+    pub answers: &'a mut [i64],
 }
 
-// What the call for a round's sheet replies, and the steps afterwards.
-#[derive(Clone, Copy)]
-pub struct AskedSheet {
-    pub reply: Read,
-    pub steps: [Step; 1100],
-}
-
-// The reply with the first of the steps lent, and the steps afterwards.
-pub fn ask(
-    book: &[i32],
-    directions: &[u16],
-    ends: &[usize],
-    asking: Asking,
-    steps: [Step; 1100],
-    words: &mut [u16],
-    store: &mut [i64],
-    answers: &mut [i64],
-) -> AskedRound
-    requires { asking.room ≤ 1100 }
-    ensures { drop asking.room result.steps ≡ drop asking.room steps }
+// The reply with the first `room` of the steps lent; the others are as before.
+pub fn ask(round: Round, steps: &mut [Step], room: usize, lent: Lent) -> Result<(), Refusal>
+    requires { room ≤ length steps.old }
+    ensures { drop room steps.new ≡ drop room steps.old }
 {
-    let mut lent = steps;
-    let reply = phrase::decode_round(
-        book,
-        directions,
-        ends,
-        asking.width,
-        &mut lent[..asking.room],
+    let Lent {
         words,
         store,
         answers,
-    );
-    AskedRound { reply, steps: lent }
+    } = lent;
+    phrase::decode_round(
+        round.book,
+        round.directions,
+        round.ends,
+        round.width,
+        &mut steps[..room],
+        words,
+        store,
+        answers,
+    )
 }
 
 // The same for the round's sheet.
 pub fn ask_sheet(
-    book: &[i32],
-    directions: &[u16],
-    ends: &[usize],
-    asking: Asking,
-    steps: [Step; 1100],
-    words: &mut [u16],
-    store: &mut [i64],
-    answers: &mut [i64],
+    round: Round,
+    steps: &mut [Step],
+    room: usize,
+    lent: Lent,
     sheet: &mut [u8],
-) -> AskedSheet
-    requires { asking.room ≤ 1100 }
-    ensures { drop asking.room result.steps ≡ drop asking.room steps }
+) -> Result<usize, Refusal>
+    requires { room ≤ length steps.old }
+    ensures { drop room steps.new ≡ drop room steps.old }
 {
-    let mut lent = steps;
-    let reply = phrase::round_sheet(
-        book,
-        directions,
-        ends,
-        asking.width,
-        &mut lent[..asking.room],
+    let Lent {
+        words,
+        store,
+        answers,
+    } = lent;
+    phrase::round_sheet(
+        round.book,
+        round.directions,
+        round.ends,
+        round.width,
+        &mut steps[..room],
         words,
         store,
         answers,
         sheet,
-    );
-    AskedSheet { reply, steps: lent }
+    )
 }

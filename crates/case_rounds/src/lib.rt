@@ -1,246 +1,176 @@
-// Calls 12 and 13: a round's directions decoded together, with steps as numbers and with step records.
+// Calls 12 and 13: a round's directions decoded together, with steps as numbers and with step records. What is asked and lent here is
+// asked and lent for a round's sheet too (`case_sheets`).
 #![tactic(auto)]
 
-ghost use Rattle.std.specs.Prelude.{◌≡◌, ◌≤◌, length, take};
+ghost use Rattle.std.specs.Prelude.{◌≤◌, length};
 
-use case_line::line;
-use case_line::line::{Number, Row};
+use case_fill::{Garbage, NO_STEP};
+use case_line::line::Line;
 use case_records::rounding;
-use case_records::rounding::{AskedRound, Asking};
+use case_records::rounding::{Lent, Round};
 use case_reply::reply;
-use meaning::{Checked, Step};
+use case_show::Shown;
+use meaning::{Refusal, Step};
 use std::io;
 
-// A list of ends: how many, and each.
-pub fn take_ends(text: &[u8], at: usize, list: &mut [usize]) -> Row
-    ensures { (result.count ≤ length list.new) × (result.count ≡ length (take result.count list.new)) }
-{
-    let first = line::take_number(text, at);
-    let count = line::at_most(first, list.len());
-    let mut place = line::begin(first.end);
-    let mut i: usize = 0;
-    while i < count {
-        let item = line::take_item(text, place);
-        let number = item.number;
-        list[i] = number.size as usize;
-        place = item.place;
-        i += 1;
-    }
-    Row {
-        count,
-        end: line::behind_group(text, place.at),
+// The round that the line goes on with: the book, the directions, their ends and the width.
+pub fn round_of<'a>(
+    line: &mut Line,
+    book: &'a mut [i32],
+    directions: &'a mut [u16],
+    ends: &'a mut [usize],
+) -> Round<'a> {
+    Round {
+        book: line.list(book),
+        directions: line.list(directions),
+        ends: line.list(ends),
+        width: line.read(),
     }
 }
 
-// What is asked of a round beside the book, the directions and their ends: the width, how many places of each list are lent, the bytes of
-// a sheet among them, and the number that the first place of each holds.
+// How many places of each list are to be lent.
 #[derive(Clone, Copy)]
 pub struct Wish {
-    pub width: i64,
-    pub steps: Number,
-    pub words: Number,
-    pub store: Number,
-    pub answers: Number,
-    pub sheet: Number,
-    pub fill: u16,
+    pub steps: usize,
+    pub words: usize,
+    pub store: usize,
+    pub answers: usize,
 }
 
-// The number at `at` where there is one more, and else the one before it.
-fn one_more(text: &[u8], before: Number, more: bool) -> Number {
-    if more {
-        return line::take_number(text, before.end);
-    }
-    before
-}
-
-// The wish at `at`, with a sheet or without.
-pub fn wish_of(text: &[u8], at: usize, with_sheet: bool) -> Wish {
-    let width = line::take_number(text, at);
-    let steps = line::take_number(text, width.end);
-    let words = line::take_number(text, steps.end);
-    let store = line::take_number(text, words.end);
-    let answers = line::take_number(text, store.end);
-    let sheet = one_more(text, answers, with_sheet);
-    let fill = line::take_number(text, sheet.end);
-    Wish {
-        width: line::as_i64(width),
-        steps,
-        words,
-        store,
-        answers,
-        sheet,
-        fill: line::as_u16(fill),
+impl Wish {
+    // The wish that the line goes on with.
+    pub fn read(line: &mut Line) -> Wish {
+        Wish {
+            steps: line.read(),
+            words: line.read(),
+            store: line.read(),
+            answers: line.read(),
+        }
     }
 }
 
-// The reply, with as many places of each list lent as are wished for and are there.
-fn ask(
-    book: &[i32],
-    directions: &[u16],
-    ends: &[usize],
-    wish: Wish,
-    steps: &mut [u16],
-    words: &mut [u16],
-    store: &mut [i64],
-    answers: &mut [i64],
-) -> Checked {
-    let n = line::at_most(wish.steps, steps.len());
-    let w = line::at_most(wish.words, words.len());
-    let s = line::at_most(wish.store, store.len());
-    let a = line::at_most(wish.answers, answers.len());
-    rounds::decode_round(
-        book,
-        directions,
-        ends,
-        wish.width,
-        &mut steps[..n],
-        &mut words[..w],
-        &mut store[..s],
-        &mut answers[..a],
-    )
+// The first n places of the list, or all where it has fewer.
+fn first<T>(list: &mut [T], n: usize) -> &mut [T] {
+    let m = n.min(list.len());
+    &mut list[..m]
 }
 
-// The same with step records, and the records afterwards.
-fn ask_records(
-    book: &[i32],
-    directions: &[u16],
-    ends: &[usize],
-    wish: Wish,
-    steps: [Step; 1100],
-    words: &mut [u16],
-    store: &mut [i64],
-    answers: &mut [i64],
-) -> AskedRound {
-    let room = line::at_most(wish.steps, 1100);
-    let w = line::at_most(wish.words, words.len());
-    let s = line::at_most(wish.store, store.len());
-    let a = line::at_most(wish.answers, answers.len());
-    rounding::ask(
-        book,
-        directions,
-        ends,
-        Asking {
-            width: wish.width,
-            room,
-        },
-        steps,
-        &mut words[..w],
-        &mut store[..s],
-        &mut answers[..a],
-    )
+// The lists that are lent beside the steps.
+#[derive(Drop)]
+pub struct Lists {
+    words: [u16; 16700],
+    store: [i64; 33000],
+    answers: [i64; 600],
 }
 
-// The round with steps as numbers: what is replied, and the steps.
-fn with_numbers(
-    rt: &impl Print,
-    book: &[i32],
-    directions: &[u16],
-    ends: &[usize],
-    wish: Wish,
-    words: &mut [u16],
-    store: &mut [i64],
-    answers: &mut [i64],
-) -> io::Result<()> {
-    let fill = wish.fill;
-    let mut steps = [0u16; 6400];
-    case_fill::words(&mut steps, fill);
-    reply::checked(
-        rt,
-        ask(
-            book, directions, ends, wish, &mut steps, words, store, answers,
-        ),
-    )?;
-    case_show::words(rt, b" steps", &steps, fill)
+impl Lists {
+    // The lists, full of garbage.
+    pub fn filled(fill: u16) -> Lists {
+        let mut words = [0u16; 16700];
+        let mut store = [0i64; 33000];
+        let mut answers = [0i64; 600];
+        case_fill::fill(&mut words, fill);
+        case_fill::fill(&mut store, fill);
+        case_fill::fill(&mut answers, fill);
+        Lists {
+            words,
+            store,
+            answers,
+        }
+    }
+
+    // As many places of each list as are wished for and are there.
+    pub fn lend(&mut self, wish: Wish) -> Lent<'_> {
+        let Lists {
+            words,
+            store,
+            answers,
+        } = self;
+        Lent {
+            words: first(words, wish.words),
+            store: first(store, wish.store),
+            answers: first(answers, wish.answers),
+        }
+    }
+
+    pub fn show(&self, rt: &impl Print, fill: u16) -> io::Result<()> {
+        case_show::list(rt, " words", &self.words, fill)?;
+        case_show::list(rt, " store", &self.store, fill)?;
+        case_show::list(rt, " answers", &self.answers, fill)
+    }
 }
 
-// The same with step records.
-fn with_records(
-    rt: &impl Print,
-    book: &[i32],
-    directions: &[u16],
-    ends: &[usize],
-    wish: Wish,
-    words: &mut [u16],
-    store: &mut [i64],
-    answers: &mut [i64],
-) -> io::Result<()> {
-    let fill = wish.fill;
-    let steps = case_fill::steps(fill);
-    let asked = ask_records(book, directions, ends, wish, steps, words, store, answers);
-    let answer = asked.reply;
-    let after = asked.steps;
-    reply::checked(rt, answer)?;
-    case_show::steps(rt, after, fill)
+// What the steps of a round are lent as: plain numbers, or records.
+trait Steps: Garbage + Into<Shown> {
+    // The reply with the first `room` of the steps lent.
+    fn decode_round(
+        round: Round,
+        steps: &mut [Self],
+        room: usize,
+        lent: Lent,
+    ) -> Result<(), Refusal>
+        requires { room ≤ length steps.old };
 }
 
-// The round with the one or the other.
-fn with_either(
-    rt: &impl Print,
-    book: &[i32],
-    directions: &[u16],
-    ends: &[usize],
-    wish: Wish,
-    records: bool,
-    words: &mut [u16],
-    store: &mut [i64],
-    answers: &mut [i64],
-) -> io::Result<()> {
-    if records {
-        with_records(rt, book, directions, ends, wish, words, store, answers)
-    } else {
-        with_numbers(rt, book, directions, ends, wish, words, store, answers)
+impl Steps for u16 {
+    fn decode_round(
+        round: Round,
+        steps: &mut [u16],
+        room: usize,
+        lent: Lent,
+    ) -> Result<(), Refusal> {
+        let Lent {
+            words,
+            store,
+            answers,
+        } = lent;
+        rounds::decode_round(
+            round.book,
+            round.directions,
+            round.ends,
+            round.width,
+            &mut steps[..room],
+            words,
+            store,
+            answers,
+        )
+    }
+}
+
+impl Steps for Step {
+    fn decode_round(
+        round: Round,
+        steps: &mut [Step],
+        room: usize,
+        lent: Lent,
+    ) -> Result<(), Refusal> {
+        rounding::ask(round, steps, room, lent)
     }
 }
 
 // The round, in lists that are full of garbage.
-fn decode_with(
-    rt: &impl Print,
-    book: &[i32],
-    directions: &[u16],
-    ends: &[usize],
-    wish: Wish,
-    records: bool,
-) -> io::Result<()> {
-    let fill = wish.fill;
-    let mut words = [0u16; 16700];
-    let mut store = [0i64; 33000];
-    let mut answers = [0i64; 600];
-    case_fill::words(&mut words, fill);
-    case_fill::numbers(&mut store, fill);
-    case_fill::numbers(&mut answers, fill);
-    with_either(
-        rt,
-        book,
-        directions,
-        ends,
-        wish,
-        records,
-        &mut words,
-        &mut store,
-        &mut answers,
-    )?;
-    case_show::words(rt, b" words", &words, fill)?;
-    case_show::numbers(rt, b" store", &store, fill)?;
-    case_show::numbers(rt, b" answers", &answers, fill)
-}
-
-// 12, and 13 with step records: the book, the directions, their ends, and the wish.
-pub fn decode_round(rt: &impl Print, text: &[u8], at: usize, records: bool) -> io::Result<()> {
+fn decode<S: Steps>(rt: &impl Print, line: &mut Line, steps: &mut [S]) -> io::Result<()> {
     let mut book = [0i32; 140000];
     let mut directions = [0u16; 2600];
     let mut ends = [0usize; 70];
-    let row = line::book(text, at, &mut book);
-    let n = row.count;
-    let words = line::direction(text, row.end, &mut directions);
-    let m = words.count;
-    let marks = take_ends(text, words.end, &mut ends);
-    let k = marks.count;
-    decode_with(
-        rt,
-        &book[..n],
-        &directions[..m],
-        &ends[..k],
-        wish_of(text, marks.end, false),
-        records,
-    )
+    let round = round_of(line, &mut book, &mut directions, &mut ends);
+    let wish = Wish::read(line);
+    let fill: u16 = line.read();
+    let mut lists = Lists::filled(fill);
+    case_fill::fill(steps, fill);
+    let room = wish.steps.min(steps.len());
+    let answer = S::decode_round(round, steps, room, lists.lend(wish));
+    reply::checked(rt, answer)?;
+    case_show::list(rt, " steps", steps, fill)?;
+    lists.show(rt, fill)
+}
+
+// 12: the book, the directions, their ends, the width, and the wish.
+pub fn with_numbers(rt: &impl Print, line: &mut Line) -> io::Result<()> {
+    decode(rt, line, &mut [0u16; 6400])
+}
+
+// 13: the same with step records.
+pub fn with_records(rt: &impl Print, line: &mut Line) -> io::Result<()> {
+    decode(rt, line, &mut [NO_STEP; 1100])
 }

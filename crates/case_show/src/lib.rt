@@ -2,247 +2,130 @@
 // `*n` where n in a row are that number.
 #![tactic(auto)]
 
-use case_fill::{after, after_step, byte, garbage, wide_word};
-use case_line::line;
-use case_reply::say;
-use lines::natural;
+use case_fill::Garbage;
 use meaning::Step;
-use std::io;
+use std::{fmt, io};
 
-// Places in a row that are as before, or that hold one number.
+// What a place is printed as: as it was before, a number, or a step.
+#[derive(Clone, Copy, PartialEq)]
+pub enum Shown {
+    AsBefore,
+    Number(i64),
+    Step { first: u16, last: u16, entry: u16 },
+}
+
+impl From<u8> for Shown {
+    fn from(b: u8) -> Shown {
+        Shown::Number(i64::from(b))
+    }
+}
+
+impl From<u16> for Shown {
+    fn from(w: u16) -> Shown {
+        Shown::Number(i64::from(w))
+    }
+}
+
+impl From<i32> for Shown {
+    fn from(z: i32) -> Shown {
+        Shown::Number(i64::from(z))
+    }
+}
+
+impl From<i64> for Shown {
+    fn from(z: i64) -> Shown {
+        Shown::Number(z)
+    }
+}
+
+impl From<Step> for Shown {
+    fn from(step: Step) -> Shown {
+        Shown::Step {
+            first: step.first,
+            last: step.last,
+            entry: step.entry,
+        }
+    }
+}
+
+// Places in a row that are printed as one.
 #[derive(Clone, Copy)]
 struct Run {
-    kept: bool,
-    value: i64,
+    shown: Shown,
     count: u64,
 }
 
-// The same of steps.
-#[derive(Clone, Copy)]
-struct StepRun {
-    kept: bool,
-    step: Step,
-    count: u64,
+impl fmt::Display for Run {
+    fn fmt<W: fmt::Write>(&self, f: &mut fmt::Formatter<W>) -> fmt::Result {
+        let count = self.count;
+        match self.shown {
+            Shown::AsBefore => return write!(f, " ~{count}"),
+            Shown::Number(z) => write!(f, " {z}")?,
+            Shown::Step { first, last, entry } => write!(f, " {first}.{last}.{entry}")?,
+        }
+        if 1 < count {
+            write!(f, "*{count}")?;
+        }
+        Ok(())
+    }
 }
 
-// `*` and how many, where there are more than one.
-fn times(rt: &impl Print, count: u64) -> io::Result<()> {
-    if 1 < count {
-        say::word(rt, b"*")?;
-        say::decimal(rt, count)?;
+// The run, printed where there is one.
+fn put(rt: &impl Print, run: Option<Run>) -> io::Result<()> {
+    match run {
+        Some(run) => rt.print(run),
+        None => Ok(()),
     }
-    Ok(())
-}
-
-// `~` and how many.
-fn as_before(rt: &impl Print, count: u64) -> io::Result<()> {
-    say::word(rt, b" ~")?;
-    say::decimal(rt, count)
-}
-
-// The run, as it is printed.
-fn put(rt: &impl Print, run: Run) -> io::Result<()> {
-    if run.count == 0 {
-        return Ok(());
-    }
-    if run.kept {
-        as_before(rt, run.count)?;
-        return Ok(());
-    }
-    say::word(rt, b" ")?;
-    say::score(rt, run.value)?;
-    times(rt, run.count)
-}
-
-// One place more belongs to the run.
-fn goes_on(run: Run, kept: bool, value: i64) -> bool {
-    if run.count == 0 {
-        return false;
-    }
-    if kept {
-        return run.kept;
-    }
-    !run.kept && run.value == value
 }
 
 // The run with one place more; where that is not as those before it the run is put, and the next one begins.
-fn next(rt: &impl Print, run: Run, before: i64, value: i64) -> io::Result<Run> {
-    let kept = before == value;
-    if goes_on(run, kept, value) {
-        let count = std::num::wrapping_add_u64(run.count, 1);
-        return Ok(Run { kept, value, count });
+fn next(rt: &impl Print, run: Option<Run>, shown: Shown) -> io::Result<Run> {
+    if let Some(
+        Run {
+            shown: before,
+            count,
+        },
+    ) = run
+        && before == shown
+    {
+        let count = count.wrapping_add(1);
+        return Ok(Run { shown, count });
     }
     put(rt, run)?;
-    Ok(Run {
-        kept,
-        value,
-        count: 1,
-    })
+    Ok(Run { shown, count: 1 })
 }
 
-// The run of steps, as it is printed.
-fn put_step(rt: &impl Print, run: StepRun) -> io::Result<()> {
-    if run.count == 0 {
-        return Ok(());
-    }
-    if run.kept {
-        as_before(rt, run.count)?;
-        return Ok(());
-    }
-    let step = run.step;
-    say::word(rt, b" ")?;
-    say::decimal(rt, step.first as u64)?;
-    say::word(rt, b".")?;
-    say::decimal(rt, step.last as u64)?;
-    say::word(rt, b".")?;
-    say::decimal(rt, step.entry as u64)?;
-    times(rt, run.count)
-}
-
-// The two steps are the same.
-fn are_same(a: Step, b: Step) -> bool {
-    a.first == b.first && a.last == b.last && a.entry == b.entry
-}
-
-// One step more belongs to the run.
-fn step_goes_on(run: StepRun, kept: bool, step: Step) -> bool {
-    if run.count == 0 {
-        return false;
-    }
-    if kept {
-        return run.kept;
-    }
-    let before = run.step;
-    !run.kept && are_same(before, step)
-}
-
-// The run with one step more, as `next`.
-fn next_step(rt: &impl Print, run: StepRun, before: Step, step: Step) -> io::Result<StepRun> {
-    let kept = are_same(before, step);
-    if step_goes_on(run, kept, step) {
-        let count = std::num::wrapping_add_u64(run.count, 1);
-        return Ok(StepRun { kept, step, count });
-    }
-    put_step(rt, run)?;
-    Ok(StepRun {
-        kept,
-        step,
-        count: 1,
-    })
-}
-
-// A number of a book, in 64 bits.
-fn wide(z: i32) -> i64 {
-    if z < 0 {
-        return line::below(natural(!z) as u64);
-    }
-    line::above(natural(z) as u64)
-}
-
-// What place i is held to: the number expected there, or what the place was full of.
-fn expected_at(expected: &[i32], i: usize, z: u16) -> i64 {
-    if i < expected.len() {
-        return wide(expected[i]);
-    }
-    wide_word(z)
-}
-
-// The list, against the numbers expected at its beginning: there `~n` is n places as expected.
-pub fn book(rt: &impl Print, list: &[i32; 41000], expected: &[i32], fill: u16) -> io::Result<()> {
-    say::word(rt, b" book")?;
-    let mut run = Run {
-        kept: false,
-        value: 0,
-        count: 0,
-    };
-    let mut z = fill;
-    let mut i: usize = 0;
-    while i < 41000 {
-        run = next(rt, run, expected_at(expected, i, z), wide(list[i]))?;
-        z = after(z);
-        i += 1;
+// The list behind its name, against the numbers expected at its beginning: there `~n` is n places as expected.
+pub fn list_against<T: Garbage + Into<Shown>>(
+    rt: &impl Print,
+    name: &str,
+    list: &[T],
+    expected: &[T],
+    fill: u16,
+) -> io::Result<()> {
+    rt.print(name)?;
+    let mut run = None;
+    let mut garbage = fill;
+    for (i, place) in list.iter().enumerate() {
+        let full = T::take(&mut garbage);
+        let before: Shown = expected.get(i).copied().unwrap_or(full).into();
+        let after: Shown = (*place).into();
+        let shown = if before == after {
+            Shown::AsBefore
+        } else {
+            after
+        };
+        run = Some(next(rt, run, shown)?);
     }
     put(rt, run)
 }
 
-// A list of words, behind its name.
-pub fn words(rt: &impl Print, name: &[u8], list: &[u16], fill: u16) -> io::Result<()> {
-    say::word(rt, name)?;
-    let mut run = Run {
-        kept: false,
-        value: 0,
-        count: 0,
-    };
-    let mut z = fill;
-    let mut i: usize = 0;
-    while i < list.len() {
-        run = next(rt, run, wide_word(z), wide_word(list[i]))?;
-        z = after(z);
-        i += 1;
-    }
-    put(rt, run)
-}
-
-// A store or answers, in the same way.
-pub fn numbers(rt: &impl Print, name: &[u8], list: &[i64], fill: u16) -> io::Result<()> {
-    say::word(rt, name)?;
-    let mut run = Run {
-        kept: false,
-        value: 0,
-        count: 0,
-    };
-    let mut z = fill;
-    let mut i: usize = 0;
-    while i < list.len() {
-        run = next(rt, run, wide_word(z), list[i])?;
-        z = after(z);
-        i += 1;
-    }
-    put(rt, run)
-}
-
-// The list of steps.
-pub fn steps(rt: &impl Print, list: [Step; 1100], fill: u16) -> io::Result<()> {
-    say::word(rt, b" steps")?;
-    let mut before = garbage(fill);
-    let mut run = StepRun {
-        kept: false,
-        step: before,
-        count: 0,
-    };
-    let mut i: usize = 0;
-    while i < 1100 {
-        run = next_step(rt, run, before, list[i])?;
-        before = after_step(before);
-        i += 1;
-    }
-    put_step(rt, run)
-}
-
-// A byte, in 64 bits.
-fn wide_byte(b: u8) -> i64 {
-    b as i64
-}
-
-// A list of bytes, behind its name.
-pub fn bytes(rt: &impl Print, name: &[u8], list: &[u8], fill: u16) -> io::Result<()> {
-    say::word(rt, name)?;
-    let mut run = Run {
-        kept: false,
-        value: 0,
-        count: 0,
-    };
-    let mut z = fill;
-    let mut i: usize = 0;
-    while i < list.len() {
-        run = next(rt, run, wide_byte(byte(z)), wide_byte(list[i]))?;
-        z = after(z);
-        i += 1;
-    }
-    put(rt, run)
-}
-
-// The bytes that a rendering prints.
-pub fn out(rt: &impl Print, list: &[u8; 4096], fill: u16) -> io::Result<()> {
-    bytes(rt, b" out", list, fill)
+// The list behind its name.
+pub fn list<T: Garbage + Into<Shown>>(
+    rt: &impl Print,
+    name: &str,
+    list: &[T],
+    fill: u16,
+) -> io::Result<()> {
+    list_against(rt, name, list, &[], fill)
 }

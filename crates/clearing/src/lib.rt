@@ -11,11 +11,7 @@ use store::index;
 pub fn clear(store: &mut [i64])
     ensures { store.new ≡ replicate (length store.old) (pos 0) }
 {
-    let mut i = 0;
-    while i < store.len() {
-        store[i] = 0;
-        i += 1;
-    }
+    store.fill(0);
 }
 
 // The same, where it is not known already (`swept`): a store that is known to be all zero is not gone through again.
@@ -34,13 +30,7 @@ fn clear_place(store: &mut [i64], k: usize, h: usize)
     ensures { Zeroed store.old store.new k h }
 {
     let o = store.len() / 8 + 7 * k;
-    store[o] = 0;
-    store[o + 1] = 0;
-    store[o + 2] = 0;
-    store[o + 3] = 0;
-    store[o + 4] = 0;
-    store[o + 5] = 0;
-    store[o + 6] = 0;
+    store[o..o + 7].fill(0);
     store[h] = 0;
 }
 
@@ -49,11 +39,9 @@ fn clear_places(store: &mut [i64], count: usize)
     requires { Indexed store.old count }
     ensures { store.new ≡ replicate (length store.old) (pos 0) }
 {
-    let mut k = 0;
-    while k < count {
+    for k in 0..count {
         let h = index::bucket_at(store, k);
         clear_place(store, k, h);
-        k += 1;
     }
 }
 

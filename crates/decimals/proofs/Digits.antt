@@ -1,7 +1,8 @@
 -- The digits of a number, one at a time from the last: what a loop that divides by 10 needs of `decimal`, and how many there are.
-use Prim.Native.Nat.{ℕ, zero, suc, ◌+◌, ◌/◌, ◌%◌, ◌^◌, ◌≤◌, ◌<◌}
+use Prim.Native.Nat.{ℕ, zero, suc, ◌+◌, ◌*◌, ◌/◌, ◌%◌, ◌^◌, ◌≤◌, ◌<◌}
 use mathlib.Core.Path.{◌≡◌, refl, ap, ◌∙◌}
 use mathlib.Core.List.{List, [], ◌∷◌, ◌++◌}
+use native.Mathlib.Nat.{one-le-pow, pow-suc}
 use native.Mathlib.Omega.{arith}
 use borrow.Author.Tests.{lt-ltb, le-ltb, ltb-true, ltb-false}
 use lib.Dec.{ltb}
@@ -66,3 +67,12 @@ at_most (suc k) n h =
 pub at_least_one : (n : ℕ) → 1 ≤ length (decimal (pos n))
 at_least_one n =
     by_test (ltb n 10) (λ t. rw (digit n (ltb-true n 10 t)) (omega arith)) (λ f. omega (arith, more_digits_lem n (ltb-false n 10 f)))
+
+-- and at least one more than the power of ten that it has in it
+pub at_least : (k n : ℕ) → 10 ^ k ≤ n → suc k ≤ length (decimal (pos n))
+at_least zero n h = at_least_one n
+at_least (suc k) n h =
+    let tenfold : 10 ^ suc k ≡ 10 ^ k * 10 = pow-suc 10 k in
+    let some : 1 ≤ 10 ^ k = one-le-pow k 10 (omega arith) in
+    let l : 10 ≤ n = omega arith in
+    omega (arith, more_digits_lem n l, at_least k (n / 10) (omega arith))

@@ -2,8 +2,7 @@
 // next can go on from there; specs/Put says what each leaves in the list.
 #![tactic(auto)]
 
-ghost use Rattle.std.specs.Prelude.{◌≡◌, ◌∷◌, [], ◌+◌, ◌^◌, ◌≤◌, pos, length};
-ghost use Rattle.laws.specs.Integers.{Within};
+ghost use Rattle.std.specs.Prelude.{◌≡◌, ◌∷◌, [], ◌+◌, ◌≤◌, pos, length};
 ghost use Rattle.meaning.specs.Render.{decimal};
 ghost use Rattle.decimals.specs.Put.{Put, field};
 
@@ -20,13 +19,10 @@ pub fn put_byte(out: &mut [u8], at: usize, b: u8) -> usize
 pub fn digit_count(n: usize) -> usize
     ensures { result ≡ length (decimal (pos n)) }
 {
-    let mut rest = n;
-    let mut k = 1;
-    while rest >= 10 {
-        rest = rest / 10;
-        k += 1;
+    match n.checked_ilog10() {
+        Some(power) => power as usize + 1,
+        None => 1,
     }
-    k
 }
 
 // Puts the digits of a number, the last one first.
@@ -35,36 +31,32 @@ pub fn put_natural(out: &mut [u8], at: usize, n: usize) -> usize
     ensures { Put (decimal (pos n)) at result out.old out.new }
 {
     let end = at + digit_count(n);
-    let mut i = end - 1;
     let mut rest = n;
-    while rest >= 10 {
-        out[i] = (48 + rest % 10) as u8;
-        rest = rest / 10;
-        i -= 1;
+    for i in (at..end).rev() {
+        out[i] = b'0' + (rest % 10) as u8;
+        rest /= 10;
     }
-    out[i] = (48 + rest) as u8;
     end
 }
 
-// Puts a number that may be negative. Its size is held to 2 to the 62, so that its opposite is a number too.
+// Puts a number that may be negative, with a minus then.
 pub fn put_number(out: &mut [u8], at: usize, z: i64) -> usize
-    requires within { Within (2 ^ 62) z }
-    requires z_in_bounds { at + length (decimal z) ≤ length out.old }
+    requires { at + length (decimal z) ≤ length out.old }
     ensures { Put (decimal z) at result out.old out.new }
 {
     if z < 0 {
-        let digits = put_byte(out, at, 45);
-        return put_natural(out, digits, (0 - z) as usize);
+        let digits = put_byte(out, at, b'-');
+        put_natural(out, digits, z.unsigned_abs() as usize)
+    } else {
+        put_natural(out, at, z as usize)
     }
-    put_natural(out, at, z as usize)
 }
 
 // Puts a number of a line, after its comma.
 pub fn put_field(out: &mut [u8], at: usize, z: i64) -> usize
-    requires within { Within (2 ^ 62) z }
-    requires z_in_bounds { at + length (field z) ≤ length out.old }
+    requires { at + length (field z) ≤ length out.old }
     ensures { Put (field z) at result out.old out.new }
 {
-    let digits = put_byte(out, at, 44);
+    let digits = put_byte(out, at, b',');
     put_number(out, digits, z)
 }

@@ -4,7 +4,7 @@ use native.Mathlib.Omega.{arith}
 use mathlib.Core.Path.{◌≡◌, refl, sym, ◌∙◌, ap, subst}
 use mathlib.Core.Bool.{Bool, true}
 use mathlib.Core.List.{List, [], ◌∷◌}
-use mathlib.Core.Option.{Option, none}
+use mathlib.Core.Option.{Option as MathOption, none}
 use borrow.Author.Tests.{le-leb, lt-leb}
 use lib.IntN.{ℤ}
 use lib.ListN.{length, get_or}
@@ -21,12 +21,12 @@ use Rattle.meaning.specs.Search.{search, answer, entered}
 use Rattle.meaning.specs.declared.Step.{Step}
 use Rattle.meaning.specs.declared.Refusal.TheVariants.{StoreTooSmall}
 use Rattle.meaning.proofs.Instance.{may_fits}
+use Rattle.std.specs.Prelude.{Option}
 use Rattle.states.specs.Answer.{no_close, picked}
 use Rattle.states.specs.Ghost.{Starting}
 use Rattle.states.specs.Shows.{Lists}
 use Rattle.ways.specs.Back.{nobody}
 use Rattle.ways.specs.Ties.{Walked}
-use Rattle.store.specs.declared.Found.{Found}
 use Rattle.states.proofs.Back.{start_chains, start_short}
 use Rattle.states.proofs.Ghost.{best_read, search_ends}
 use Rattle.answer.specs.declared.PlainReply.{PlainReply}
@@ -63,18 +63,18 @@ module _ (book : Book) (direction : List ℕ) (width : ℤ) {st : List ℤ} {cou
   told_all {q} {words₀} {words₁} {r} T = subst (λ (m : ℕ). Told book q m words₀ words₁ r) entered_count T
 
   -- what was found is the answer
-  pub found_is : {n : ℕ} → n ≡ word_count direction → (result : Found)
-      → ((l : List Hyp) → Walked st l → Lists n st count l → pick words_covered n no_close is_better none l ≡ picked l result) → {r : Found} → result ≡ r
+  pub found_is : {n : ℕ} → n ≡ word_count direction → (result : Option ℕ)
+      → ((l : List Hyp) → Walked st l → Lists n st count l → pick words_covered n no_close is_better none l ≡ picked l result) → {r : Option ℕ} → result ≡ r
       → answer book direction width ≡ picked (entered book direction width) r
   unfolding answer entered
   found_is e result f z =
       best_read book direction width B result (subst (λ (m : ℕ). (l : List Hyp) → Walked st l → Lists m st count l → pick words_covered m no_close is_better none l ≡ picked l result) e f)
       ∙ ap (picked (run (search book direction width))) z
 
-  pub concluded_by : {o : Option Hyp} → answer book direction width ≡ o → (words₀ words₁ : List ℕ) (r : PlainReply)
+  pub concluded_by : {o : MathOption Hyp} → answer book direction width ≡ o → (words₀ words₁ : List ℕ) (r : PlainReply)
       → Concluded o book width (length (entered book direction width)) words₀ words₁ r
       → Concluded (answer book direction width) book width (length (entered book direction width)) words₀ words₁ r
-  concluded_by e words₀ words₁ r C = subst (λ (o : Option Hyp). Concluded o book width (length (entered book direction width)) words₀ words₁ r) (sym e) C
+  concluded_by e words₀ words₁ r C = subst (λ (o : MathOption Hyp). Concluded o book width (length (entered book direction width)) words₀ words₁ r) (sym e) C
 
 -- ════ question 13
 

@@ -1,4 +1,5 @@
 -- The answer on plain numbers is that of the definition, question by question.
+use Rattle.std.specs.declared.result.Result.TheVariants.{Ok}
 use Prim.Native.Nat.{ℕ, zero, suc, ◌*◌, ◌/◌, ◌^◌, ◌≤◌, ◌<◌}
 use native.Mathlib.Omega.{arith}
 use mathlib.Core.Path.{◌≡◌, refl, sym, ◌∙◌, ap, subst}
@@ -19,9 +20,8 @@ use Rattle.meaning.specs.Direction.{word_count, direction_refusal}
 use Rattle.meaning.specs.Derivation.{is_valid, target_words}
 use Rattle.meaning.specs.State.{Hyp, start}
 use Rattle.meaning.specs.Search.{is_off, entered, last_set, answer}
-use Rattle.meaning.specs.Reply.{refused, done, reply, written_over, written_if, Lent, decoded_reply, before_search, after_search, decode_refusal, answer_steps, decode, decoded_steps, decoded_words, decoded_store, Decodes}
+use Rattle.meaning.specs.Reply.{refused, done, reply, written_over, written_if, Lent, reply_of, before_search, after_search, decode_refusal, answer_steps, decode, decoded_steps, decoded_words, decoded_store, Decodes}
 use Rattle.meaning.specs.declared.Answer.{Answer}
-use Rattle.meaning.specs.declared.Decoded.TheVariants.{Done}
 use Rattle.meaning.specs.declared.Refusal.{Refusal}
 use Rattle.meaning.specs.declared.Refusal.TheVariants.{Width, StepsOrWordsTooShort, StoreTooSmall, NoDerivation, LastSetEmpty}
 use Rattle.meaning.specs.declared.Step.{Step}
@@ -37,7 +37,7 @@ use Rattle.proposal.proofs.Long.{passes_short}
 use Rattle.records.specs.Plain.{steps_of}
 use Rattle.records.proofs.Laws.{count_steps}
 use Rattle.answer.specs.declared.PlainReply.{PlainReply}
-use Rattle.extending.specs.Extend.{Searchable}
+use Rattle.extending.specs.Searchable.{Searchable}
 use Rattle.answer.specs.Told.{Told}
 use Rattle.decoder.specs.Decodes.{refused_by, no_answer, Concluded, SearchedIf, unless_refused, PlainDecodes}
 
@@ -155,7 +155,7 @@ module _ (loaded : List ℤ) (direction : List ℕ) (width : ℤ) (room : ℕ) (
             record {
               has_room = omega arith;
               few = omega arith;
-              reply_is = rw (k, a) (ap decoded_reply T.reply_is);
+              reply_is = rw (k, a) (ap reply_of T.reply_is);
               steps_are = rw (k, a) T.steps_are;
               words_are = rw (k, a) T.words_after;
               store_is = cleared;
@@ -173,9 +173,9 @@ module _ (loaded : List ℤ) (direction : List ℕ) (width : ℤ) (room : ℕ) (
 -- ════ an answer, as plain numbers and written over a caller's list
 
 module _ {loaded : List ℤ} {direction : List ℕ} {width : ℤ} {room : ℕ} {words₀ words₁ : List ℕ} {store₀ store₁ : List ℤ} {r : PlainReply}
-    (D : PlainDecodes loaded direction width room words₀ words₁ store₀ store₁ r) {a : Answer} (e : r.reply ≡ Done a) where
+    (D : PlainDecodes loaded direction width room words₀ words₁ store₀ store₁ r) {a : Answer} (e : r.reply ≡ Ok a) where
   pub plain_decoded : decode loaded direction width (record { steps = room; words = length words₀; store = length store₀ }) ≡ done a
-  plain_decoded = sym D.reply_is ∙ ap decoded_reply e
+  plain_decoded = sym D.reply_is ∙ ap reply_of e
 
   passed : decode_refusal loaded direction width (record { steps = room; words = length words₀; store = length store₀ }) ≡ 0
   unfolding decode

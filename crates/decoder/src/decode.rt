@@ -8,13 +8,12 @@ ghost use Rattle.options.specs.Options.{options_size};
 ghost use Rattle.states.specs.Ghost.{Starting};
 ghost use Rattle.clearing.specs.Swept.{Swept};
 ghost use Rattle.decoder.specs.Decodes.{refused_by, no_answer, Concluded, Searched, PlainDecodes};
-ghost use Rattle.extending.specs.Extend.{Searchable};
 
 use answer::{Best, PlainReply};
 use extending::Beam;
-use meaning::{Decoded, Refusal};
-use states::Grown;
-use store::Found;
+use extending::task::Task;
+use meaning::Refusal;
+use states::Full;
 
 // A refusal: no steps are written.
 pub fn refused(refusal: Refusal) -> PlainReply
@@ -22,7 +21,7 @@ pub fn refused(refusal: Refusal) -> PlainReply
 {
     PlainReply {
         plain: records::empty(),
-        reply: Decoded::Refused(refusal),
+        reply: Err(refusal),
     }
 }
 
@@ -38,32 +37,31 @@ fn no_answer(width: i64) -> Refusal
 }
 
 // The search is over: the best state of the last set is the answer, or there is none. The store is cleared.
-fn conclude(
-    store: &mut [i64],
-    count: usize,
-    book: &[i32],
-    direction: &[u16],
-    index: &[u16],
-    beam: Beam,
-    words: &mut [u16],
-) -> PlainReply
-    requires prepared { Prepared book.now direction.now index.now beam.setup }
-    requires starting { Starting (book_of book.now) direction.now beam.width (word_count direction.now) store.old count }
-    requires direction_in_bounds { 8 * word_count direction.now ≤ length words.old }
-    ensures concluded { Concluded (answer (book_of book.now) direction.now beam.width) (book_of book.now) beam.width (length (entered (book_of book.now) direction.now beam.width)) words.old words.new result }
+fn conclude(store: &mut [i64], count: usize, task: &Task<'_>, words: &mut [u16]) -> PlainReply
+    requires starting { Starting (book_of task.now.book.now) task.now.direction.now task.now.beam.width (word_count task.now.direction.now) store.old count }
+    requires direction_in_bounds { 8 * word_count task.now.direction.now ≤ length words.old }
+    ensures concluded { Concluded (answer (book_of task.now.book.now) task.now.direction.now task.now.beam.width) (book_of task.now.book.now) task.now.beam.width (length (entered (book_of task.now.book.now) task.now.direction.now task.now.beam.width)) words.old words.new result }
     ensures store_after { store.new ≡ replicate (length store.old) (pos 0) }
 {
-    match states::best::pick_best(store, count, beam.setup.n) {
-        Found::Nothing => {
+    match states::best::pick_best(store, count, task.beam.setup.n) {
+        None => {
             clearing::clear_used(store, count);
-            refused(no_answer(beam.width))
+            refused(no_answer(task.beam.width))
         }
-        Found::At(k) => {
+        Some(k) => {
             let best = Best {
                 at: k,
                 states: count,
             };
-            let told = answer::trace(store, best, book, direction, index, beam.setup, words);
+            let told = answer::trace(
+                store,
+                best,
+                task.book,
+                task.direction,
+                task.index,
+                task.beam.setup,
+                words,
+            );
             clearing::clear_used(store, count);
             told
         }
@@ -72,29 +70,19 @@ fn conclude(
 
 // The search from the start state on, and what it answers: 13 where the store is too small for the states entered. The store may
 // hold anything at first, unless it is known to be `swept`, and is all zero afterwards.
-fn search_for_best(
-    store: &mut [i64],
-    book: &[i32],
-    direction: &[u16],
-    index: &[u16],
-    options: &[u16],
-    beam: Beam,
-    words: &mut [u16],
-    swept: bool,
-) -> PlainReply
-    requires searchable { Searchable book.now direction.now index.now options.now beam.setup }
-    requires direction_in_bounds { 8 * word_count direction.now ≤ length words.old }
+fn search_for_best(store: &mut [i64], task: &Task<'_>, words: &mut [u16], swept: bool) -> PlainReply
+    requires direction_in_bounds { 8 * word_count task.now.direction.now ≤ length words.old }
     requires swept { Swept swept store.old }
-    ensures searched { Searched (book_of book.now) direction.now beam.width (length store.old / 8) words.old words.new result }
+    ensures searched { Searched (book_of task.now.book.now) task.now.direction.now task.now.beam.width (length store.old / 8) words.old words.new result }
     ensures store_after { store.new ≡ replicate (length store.old) (pos 0) }
 {
     clearing::sweep(store, swept);
-    match sets::search(store, book, direction, index, options, beam) {
-        Grown::Overflow => {
+    match sets::search(store, task) {
+        Err(Full) => {
             clearing::clear(store);
             refused(Refusal::StoreTooSmall)
         }
-        Grown::On(count) => conclude(store, count, book, direction, index, beam, words),
+        Ok(count) => conclude(store, count, task, words),
     }
 }
 
@@ -138,7 +126,12 @@ pub fn decode_with(
         return refused(Refusal::StepsOrWordsTooShort);
     }
     options::list_options(book, index, t, direction, options);
-    search_for_best(
-        store, book, direction, index, options, beam, words, lent.swept,
-    )
+    let task = Task {
+        book,
+        direction,
+        index,
+        options,
+        beam,
+    };
+    search_for_best(store, &task, words, lent.swept)
 }

@@ -1,19 +1,21 @@
 -- A row of target words, one word at a time.
-use Prim.Native.Nat.{ℕ, ◌+◌, ◌*◌, ◌≤◌, ◌<◌}
+use Prim.Native.Nat.{ℕ, ◌+◌, ◌-◌, ◌*◌, ◌≤◌, ◌<◌}
 use native.Mathlib.Nat.{mod-eq_of_lt}
 use native.Mathlib.Omega.{arith}
 use mathlib.Core.Path.{◌≡◌, ap, ◌∙◌}
-use mathlib.Core.List.{List}
-use lib.IntN.{ℤ, ◌+ℤ◌}
-use lib.ListN.{length, get_or, drop, drop_of_length-le}
+use mathlib.Core.List.{List, map}
+use lib.IntN.{ℤ, pos, ◌+ℤ◌}
+use lib.ListN.{length, get_or, take, drop, drop_of_length-le, length-drop, length-map, get_or-map}
+use lib.Seq.{get_or-take, get_or-drop, length-take-le}
+use Rattle.std.proofs.lemmas.List.{same_lists, get_or_default}
 use Rattle.laws.specs.Integers.{Within}
 use Rattle.laws.proofs.Bounds.{within_+, within_mono}
-use Rattle.laws.proofs.Lists.{drop_next}
+use Rattle.laws.proofs.Lists.{drop_next, part_size}
 use Rattle.positions.specs.Runs.{mask_of}
 use Rattle.meaning.specs.Bounds.{word_most, triple_bound}
 use Rattle.meaning.specs.Book.{Entry}
 use Rattle.meaning.specs.declared.State.{State}
-use Rattle.derivation.specs.Model.{model_score, empty_row, with_word, with_words, word_in, WordsAt}
+use Rattle.derivation.specs.Model.{model_score, empty_row, with_word, with_words, word_of, word_in, WordsAt}
 use Rattle.derivation.specs.Next.{jump_from, gain_by, state_by, next_state}
 use Rattle.derivation.specs.declared.Phrase.{Phrase}
 use Rattle.derivation.specs.declared.Setup.{Setup}
@@ -21,19 +23,43 @@ use Rattle.derivation.specs.declared.Row.{Row}
 
 -- the word at a place is the entry's
 pub word_is : {loaded : List ℤ} {from many : ℕ} {words : List ℕ} → WordsAt loaded from many words → (j : ℕ) → j < many → word_in loaded (from + j) ≡ get_or words j 0
-unfolding word_in
+unfolding word_of
 word_is {loaded} {from} {many} {words} w j h =
     rw (w.word_at j h) (let k : get_or words j 0 ≤ word_most = w.word_to j h in mod-eq_of_lt (omega arith))
 
-module _ (index : List ℕ) (t : Setup) where
-  -- one word more of the row
-  pub row_next : (s : Row) (words : List ℕ) (j : ℕ) → j < length words → with_words index t s (drop j words) ≡ with_words index t (with_word index t s (get_or words j 0)) (drop (j + 1) words)
-  unfolding with_words
-  row_next s words j h = ap (with_words index t s) (drop_next words j 0 h)
+-- the numbers at the places of an entry's words are those words
+pub words_are : {loaded : List ℤ} {from many : ℕ} {words : List ℕ} → WordsAt loaded from many words → map word_of (take (from + many - from) (drop from loaded)) ≡ words
+unfolding word_of
+words_are {loaded} {from} {many} {words} w = ap (map word_of) (part_size loaded from many) ∙ same_lists (map word_of part) words long at
+  where
+    part : List ℤ
+    part = take many (drop from loaded)
 
-  pub row_end : (s : Row) (words : List ℕ) (j : ℕ) → length words ≤ j → with_words index t s (drop j words) ≡ s
+    part_long : length part ≡ many
+    part_long = length-take-le many (drop from loaded) (let l = length-drop from loaded in let i = w.inside in omega arith)
+
+    long : length (map word_of part) ≡ length words
+    long = length-map part word_of ∙ part_long ∙ w.many_are
+
+    at : (j d : ℕ) → j < length (map word_of part) → get_or (map word_of part) j d ≡ get_or words j d
+    at j d h =
+        let inside : j < many = let a = long in let b = w.many_are in omega arith in
+        get_or_default (map word_of part) j d 0 h
+        ∙ get_or-map word_of part j (pos 0)
+        ∙ ap word_of (get_or-take many (drop from loaded) j (pos 0) inside ∙ get_or-drop from loaded j (pos 0))
+        ∙ word_is w j inside
+        ∙ get_or_default words j 0 d (let a = long in omega arith)
+
+module _ (index : List ℕ) (t : Setup) where
+  -- one number of the book more of the row
+  pub row_next : (s : Row) (numbers : List ℤ) (j : ℕ) → j < length numbers
+      → with_words index t s (map word_of (drop j numbers)) ≡ with_words index t (with_word index t s (word_of (get_or numbers j (pos 0)))) (map word_of (drop (j + 1) numbers))
   unfolding with_words
-  row_end s words j h = ap (with_words index t s) (drop_of_length-le words {i = j} h)
+  row_next s numbers j h = ap (λ (xs : List ℤ). with_words index t s (map word_of xs)) (drop_next numbers j (pos 0) h)
+
+  pub row_end : (s : Row) (numbers : List ℤ) (j : ℕ) → length numbers ≤ j → with_words index t s (map word_of (drop j numbers)) ≡ s
+  unfolding with_words
+  row_end s numbers j h = ap (λ (xs : List ℤ). with_words index t s (map word_of xs)) (drop_of_length-le numbers {i = j} h)
 
   pub row_within : ((v w y : ℕ) → Within triple_bound (model_score index t v w y)) → (s : Row) (y j : ℕ) → Within (j * triple_bound) s.score → Within ((j + 1) * triple_bound) (with_word index t s y).score
   unfolding with_word

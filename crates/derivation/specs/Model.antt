@@ -35,9 +35,13 @@ with_words index t s (y ∷ ys) = with_words index t (with_word index t s y) ys
 
 -- ════ an entry
 
+-- a number of the list as a word
+unfoldable pub word_of : ℤ → ℕ
+word_of x = nat_of x % word_span
+
 -- the number at a place of the list as a word
-unfoldable pub word_in : List ℤ → ℕ → ℕ
-word_in loaded k = nat_of (get_or loaded k (pos 0)) % word_span
+abbrev pub word_in : List ℤ → ℕ → ℕ
+word_in loaded k = word_of (get_or loaded k (pos 0))
 
 -- the words stand in the list from a place on
 pub record WordsAt (loaded : List ℤ) (from many : ℕ) (words : List ℕ) : Type 0 where

@@ -3,7 +3,7 @@ ghost use Rattle.std.specs.Prelude.{◌≡◌, ◌+◌, ◌-◌, ◌<◌, length
 ghost use Rattle.laws.specs.Integers.{Within};
 ghost use Rattle.meaning.specs.Bounds.{triple_bound, words_bound};
 ghost use Rattle.meaning.specs.Book.{Entry};
-ghost use Rattle.derivation.specs.Model.{Model, word_in, empty_row, with_word, with_words, PhraseOf, Phrased};
+ghost use Rattle.derivation.specs.Model.{Model, word_of, empty_row, with_word, with_words, PhraseOf, Phrased};
 
 use crate::{Phrase, Row, Setup};
 
@@ -14,7 +14,6 @@ fn add_word(index: &[u16], t: Setup, s: Row, y: u16) -> Row
     requires within { Within (words_bound - triple_bound) s.score }
     ensures { result ≡ with_word index.now t s y }
 {
-    let sum = s.score;
     let triple = language::triple_score(
         index,
         t.model,
@@ -24,22 +23,17 @@ fn add_word(index: &[u16], t: Setup, s: Row, y: u16) -> Row
     );
     Row {
         // within words_bound
-        score: sum + triple as i32,
+        score: s.score + triple as i32,
         word1: s.word2,
         word2: y,
     }
 }
 
-// The number at a place of the book as a word.
-pub fn word_at(book: &[i32], k: usize) -> u16
-    requires { k < length book.now }
-    ensures { result ≡ word_in book.now k }
+// A number of the book as a word.
+pub fn word_of(x: i32) -> u16
+    ensures { result ≡ word_of x }
 {
-    let x = book[k];
-    if x < 0 {
-        return 0;
-    }
-    (x as usize % lines::WORD_SPAN) as u16
+    (lines::natural(x) % lines::WORD_SPAN) as u16
 }
 
 // The row of the entry's target words after the words word1 and word2. They stand side by side in the book.
@@ -49,16 +43,13 @@ pub fn row_of(book: &[i32], index: &[u16], t: Setup, p: Phrase, word1: u16, word
     ensures value { (e : Entry) → PhraseOf book.now e p → result ≡ with_words index.now t (empty_row word1 word2) e.target }
     ensures within { Within words_bound result.score }
 {
-    let mut s = Row {
+    let mut row = Row {
         score: 0,
         word1,
         word2,
     };
-    let mut k = p.target;
-    while k < p.target + p.count {
-        let y = word_at(book, k);
-        s = add_word(index, t, s, y);
-        k += 1;
+    for x in &book[p.target..p.target + p.count] {
+        row = add_word(index, t, row, word_of(*x));
     }
-    s
+    row
 }

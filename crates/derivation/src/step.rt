@@ -13,12 +13,7 @@ pub fn jump(r: usize, first: usize) -> usize
     requires { r < 2 ^ 63 }
     ensures { result ≡ jump_from r first }
 {
-    let next = r + 1;
-    if first <= next {
-        next - first
-    } else {
-        first - next
-    }
+    (r + 1).abs_diff(first)
 }
 
 // What a step adds to a score: the entry's, the penalty of its jump, and what its target words say, a sum within words_bound.
@@ -26,10 +21,7 @@ fn gain(t: Setup, p: Phrase, far: usize, row: Row) -> i64
     requires { (Within penalty_most t.eta) × ((Within score_most p.g) × ((far ≤ 32) × (Within words_bound row.score))) }
     ensures { (result ≡ gain_by t p far row) × Within gain_bound result }
 {
-    let g = p.g;
-    let eta = t.eta;
-    let words = row.score;
-    g + eta * far as i64 + words as i64
+    p.g + t.eta * far as i64 + row.score as i64
 }
 
 // The state after the entry's step over the positions first to last, which are free; its target words make the row.
@@ -39,12 +31,11 @@ pub fn next_state(t: Setup, p: Phrase, row: Row, first: usize, last: usize, s: S
     ensures { result ≡ state_by t p row first last s }
 {
     let more = gain(t, p, jump(s.r as usize, first), row);
-    let old = s.score;
     State {
         word1: row.word1,
         word2: row.word2,
         covered: positions::covered_with(s.covered, first, last),
         r: last as u16,
-        score: old + more,
+        score: s.score + more,
     }
 }

@@ -1,5 +1,5 @@
 -- One option of a state: where it may extend it, and what is added then.
-use Prim.Native.Nat.{ℕ, zero, suc, ◌+◌, ◌-◌, ◌^◌, ◌≤◌, ◌<◌}
+use Prim.Native.Nat.{ℕ, zero, suc, ◌+◌, ◌-◌, ◌≤◌, ◌<◌}
 use native.Mathlib.Omega.{arith}
 use mathlib.Core.Path.{◌≡◌, refl, sym, ◌∙◌, ap, subst}
 use mathlib.Core.Bool.{Bool, true, false, and-true, and-false}
@@ -8,12 +8,13 @@ use native.Mathlib.Numerals.{add-one}
 use borrow.Author.Tests.{le-leb, lt-leb}
 use lib.Dec.{leb}
 use lib.IntN.{ℤ}
-use lib.ListN.{length, get_or, drop}
+use lib.ListN.{length, drop}
+use Rattle.std.specs.Prelude.{Result, Ok, Err}
 use Rattle.laws.specs.Bits.{bits_of}
 use Rattle.laws.proofs.Bits.{bits_length}
 use Rattle.laws.proofs.Bounds.{within_mono}
 use Rattle.laws.proofs.Lists.{get_d_mem, climbs}
-use Rattle.positions.specs.Runs.{free_run, RunsFrom}
+use Rattle.positions.specs.Runs.{free_run}
 use Rattle.positions.proofs.Laws.{free_run_lem}
 use Rattle.meaning.specs.Book.{Book, book_of}
 use Rattle.meaning.specs.Direction.{word_count}
@@ -26,27 +27,27 @@ use Rattle.meaning.proofs.Ranges.{loaded_ranged}
 use Rattle.derivation.specs.Model.{PhraseOf}
 use Rattle.derivation.specs.Next.{jump_from}
 use Rattle.derivation.specs.declared.Phrase.{Phrase}
-use Rattle.derivation.specs.declared.Setup.{Setup}
 use Rattle.store.specs.Store.{Storable}
 use Rattle.states.specs.Ghost.{option_at, Chosen, Growing, Grew, After, NextPlace}
 use Rattle.store.specs.declared.Place.{Place}
 use Rattle.states.specs.declared.Added.{Added}
-use Rattle.states.specs.declared.Added.TheVariants.{Replaced, Kept, Appended, Full}
-use Rattle.states.specs.declared.Grown.{Grown}
+use Rattle.states.specs.declared.Added.TheVariants.{Replaced, Kept, Appended}
+use Rattle.states.specs.declared.Full.{Full}
 use Rattle.states.specs.Order.{Leading}
 use Rattle.states.proofs.Ghost.{skipped, went, chosen_score, next_storable, leads}
-use Rattle.extending.specs.Extend.{next_place, CanPlace, grown_by, Grows, Searchable, SpotOf, TurnOf}
-use Rattle.extending.specs.declared.Beam.{Beam}
-use Rattle.extending.specs.declared.Source.{Source}
+use Rattle.extending.specs.Extend.{next_place, CanPlace, grown_by, Grows, SpotOf, TurnOf}
+use Rattle.extending.specs.declared.task.Task.{Task}
 use Rattle.extending.specs.declared.Spot.{Spot}
 use Rattle.extending.specs.declared.Turn.{Turn}
 use Rattle.options.specs.Options.{options_from, start_at, option_in}
 use Rattle.extending.proofs.Placed.{can_place, next_place_lem}
 
-module _ {loaded : List ℤ} {direction : List ℕ} {index : List ℕ} {beam : Beam} {turn : Turn}
-    (T : TurnOf loaded direction index beam turn) {p : Phrase} (of : PhraseOf loaded (entry_at (book_of loaded) turn.entry) p) where
+module _ {task : Task} {turn : Turn} (T : TurnOf task turn) {p : Phrase} (of : PhraseOf task.book.now (entry_at (book_of task.book.now) turn.entry) p) where
   abbrev book : Book
-  book = book_of loaded
+  book = book_of task.book.now
+
+  abbrev direction : List ℕ
+  direction = task.direction.now
 
   abbrev n : ℕ
   n = word_count direction
@@ -91,15 +92,15 @@ module _ {loaded : List ℤ} {direction : List ℕ} {index : List ℕ} {beam : B
 
   near_is : leb (jump (key_of n x.state).r step) book.limit ≡ true
   unfolding key_of jump
-  near_is = le-leb (jump_from x.state.r first) book.limit (let h = T.near in let e = T.prepared.limit_is in omega arith)
+  near_is = le-leb (jump_from x.state.r first) book.limit (let h = T.near in let e = task.searchable.prepared.limit_is in omega arith)
 
   may_is : (b : Bool) → leb p.long run ≡ b → may_extend book direction (key_of n x.state) (option_at book direction o) ≡ b
   unfolding may_extend
   may_is b e = ap (may_extend book direction (key_of n x.state)) T.option_is ∙ rw (fit, free_is, e, near_is) (and-true b)
 
   -- the run is too short: nothing is added
-  pub turn_skips : {st : List ℤ} {count : ℕ} → Growing book direction beam.width x.size j o st count → run < p.long → Growing book direction beam.width x.size j (o + 1) st count
-  turn_skips G h = skipped book direction beam.width T.spot_of.chosen T.option_in G (may_is false (lt-leb p.long run h))
+  pub turn_skips : {st : List ℤ} {count : ℕ} → Growing book direction task.beam.width x.size j o st count → run < p.long → Growing book direction task.beam.width x.size j (o + 1) st count
+  turn_skips G h = skipped book direction task.beam.width T.spot_of.chosen T.option_in G (may_is false (lt-leb p.long run h))
 
   module _ (h : p.long ≤ run) where
     free : is_free step 1 (key_of n x.state).covered ≡ true
@@ -108,34 +109,34 @@ module _ {loaded : List ℤ} {direction : List ℕ} {index : List ℕ} {beam : B
     size_to : x.size ≤ n
     size_to = let l = T.spot_of.chosen.low in let e = T.spot_of.chosen.sized in omega arith
 
-    pub turn_can : CanPlace beam.setup p turn
+    pub turn_can : CanPlace task.beam.setup p turn
     turn_can =
         let N = T.spot_of.chosen.shown.fine.few in
         let s = size_to in
-        can_place T.prepared turn of T.spot_of.chosen.shown.fine fit free T.near
-        (within_mono (omega arith) (chosen_score book direction beam.width (loaded_ranged loaded T.prepared.passed) T.spot_of.chosen)) s T.entry_to
+        can_place task.searchable.prepared turn of T.spot_of.chosen.shown.fine fit free T.near
+        (within_mono (omega arith) (chosen_score book direction task.beam.width (loaded_ranged task.book.now task.searchable.prepared.passed) T.spot_of.chosen)) s T.entry_to
 
-    pub turn_next : NextPlace book direction x j o (next_place index beam.setup p (entry_at book k) turn)
-    turn_next = next_place_lem T.prepared turn of T.spot_of.chosen.shown.fine fit free T.entry_to T.option_is T.spot_of.chosen.shown.size_is
+    pub turn_next : NextPlace book direction x j o (next_place task.index.now task.beam.setup p (entry_at book k) turn)
+    turn_next = next_place_lem task.searchable.prepared turn of T.spot_of.chosen.shown.fine fit free T.entry_to T.option_is T.spot_of.chosen.shown.size_is
 
     -- each answer of add_place goes one option further
-    pub turn_grows : (y : Place) → y ≡ next_place index beam.setup p (entry_at book k) turn → {st st' : List ℤ} {count : ℕ} → Growing book direction beam.width x.size j o st count
-        → (r : Grown) → Grows st st' count y r → Grew book direction beam.width x.size j (o + 1) st' r
+    pub turn_grows : (y : Place) → y ≡ next_place task.index.now task.beam.setup p (entry_at book k) turn → {st st' : List ℤ} {count : ℕ} → Growing book direction task.beam.width x.size j o st count
+        → (r : Result ℕ Full) → Grows st st' count y r → Grew book direction task.beam.width x.size j (o + 1) st' r
     turn_grows y e {st} {st'} {count} G r g =
         rw g.is (by g.answer
-        (went book direction beam.width T.spot_of.chosen T.option_in G (may_is true (le-leb p.long run h)) (subst (NextPlace book direction x j o) (sym e) turn_next) st' g.answer g.added g.index))
+        (went book direction task.beam.width T.spot_of.chosen T.option_in G (may_is true (le-leb p.long run h)) (subst (NextPlace book direction x j o) (sym e) turn_next) st' g.answer g.added g.index))
       where
-        by : (a : Added) → After book direction beam.width x.size j (o + 1) st' count a → Grew book direction beam.width x.size j (o + 1) st' (grown_by count a)
-        by Replaced u = u
-        by Kept u = u
-        by Appended u = u
-        by Full u = u
+        by : (a : Result Added Full) → After book direction task.beam.width x.size j (o + 1) st' count a → Grew book direction task.beam.width x.size j (o + 1) st' (grown_by count a)
+        by (Ok Replaced) u = u
+        by (Ok Kept) u = u
+        by (Ok Appended) u = u
+        by (Err full) u = u
 
-    pub turn_storable : (y : Place) → y ≡ next_place index beam.setup p (entry_at book k) turn → Storable y
-    turn_storable y e = subst Storable (sym e) (next_storable book direction beam.width turn_next T.spot_of.place_small)
+    pub turn_storable : (y : Place) → y ≡ next_place task.index.now task.beam.setup p (entry_at book k) turn → Storable y
+    turn_storable y e = subst Storable (sym e) (next_storable book direction task.beam.width turn_next T.spot_of.place_small)
 
-    pub turn_leads : (y : Place) → y ≡ next_place index beam.setup p (entry_at book k) turn → {st : List ℤ} {count : ℕ} → Growing book direction beam.width x.size j o st count → Leading st count y
-    turn_leads y e G = leads book direction beam.width T.spot_of.chosen T.option_in G (may_is true (le-leb p.long run h)) (subst (NextPlace book direction x j o) (sym e) turn_next)
+    pub turn_leads : (y : Place) → y ≡ next_place task.index.now task.beam.setup p (entry_at book k) turn → {st : List ℤ} {count : ℕ} → Growing book direction task.beam.width x.size j o st count → Leading st count y
+    turn_leads y e G = leads book direction task.beam.width T.spot_of.chosen T.option_in G (may_is true (le-leb p.long run h)) (subst (NextPlace book direction x j o) (sym e) turn_next)
 
 -- several options that may not extend the state
 module _ (bk : Book) (direction : List ℕ) (width : ℤ) (i j : ℕ) (x : Place) (A : Chosen bk direction width i j x) (from : ℕ) (st : List ℤ) (count : ℕ) where
@@ -152,13 +153,15 @@ module _ (bk : Book) (direction : List ℕ) (width : ℤ) (i j : ℕ) (x : Place
       (skipped bk direction width A (omega arith) F (never (from + many) (omega arith) (omega arith)))
 
 -- the options of a position, from where they begin to where the next position's begin
-module _ {loaded : List ℤ} {direction : List ℕ} {index : List ℕ} {options : List ℕ} {beam : Beam} {spot : Spot}
-    (R : Searchable loaded direction index options beam.setup) (S : SpotOf loaded direction beam spot) where
+module _ {task : Task} {spot : Spot} (S : SpotOf task spot) where
   abbrev book' : Book
-  book' = book_of loaded
+  book' = book_of task.book.now
+
+  abbrev direction' : List ℕ
+  direction' = task.direction.now
 
   abbrev n' : ℕ
-  n' = word_count direction
+  n' = word_count direction'
 
   abbrev x' : Place
   x' = spot.source.place
@@ -170,10 +173,10 @@ module _ {loaded : List ℤ} {direction : List ℕ} {index : List ℕ} {options 
   first' = spot.first
 
   abbrev from : ℕ
-  from = start_at options (first' - 1)
+  from = start_at task.options.now (first' - 1)
 
   abbrev to : ℕ
-  to = start_at options first'
+  to = start_at task.options.now first'
 
   before_is : first' - 1 + 1 ≡ first'
   before_is = let h = S.first_from in omega arith
@@ -182,38 +185,34 @@ module _ {loaded : List ℤ} {direction : List ℕ} {index : List ℕ} {options 
   before_in = let h = S.first_from in let l = S.first_to in omega arith
 
   pub spot_rises : from ≤ to
-  spot_rises = rw before_is at (R.choices.options_of.rising (first' - 1) before_in)
+  spot_rises = rw before_is at (task.searchable.choices.options_of.rising (first' - 1) before_in)
 
-  to_end : to ≤ start_at options n'
+  to_end : to ≤ start_at task.options.now n'
   to_end = let h = S.first_to in
       let z : first' + (n' - first') ≡ n' = omega arith in
-      rw z at (climbs (start_at options) first' (n' - first') (λ k a b. rw add-one at (R.choices.options_of.rising k (omega arith))))
+      rw z at (climbs (start_at task.options.now) first' (n' - first') (λ k a b. rw add-one at (task.searchable.choices.options_of.rising k (omega arith))))
 
-  -- the starts and the options that are read stand in the list
-  pub spot_starts : (first' ≤ 32) × (options_from ≤ length options)
-  spot_starts = let h = S.first_to in let f = R.choices.few in let r = R.choices.options_of.room in (omega arith, omega arith)
+  -- the options that are read stand in the list
+  pub spot_option : (o : ℕ) → o < to → options_from + o < length task.options.now
+  spot_option o h = let e = to_end in let r = task.searchable.choices.options_of.room in omega arith
 
-  pub spot_option : (o : ℕ) → o < to → options_from + o < length options
-  spot_option o h = let e = to_end in let r = R.choices.options_of.room in omega arith
+  each : (o : ℕ) → from ≤ o → o < to → option_at book' direction' o ≡ step_at book' first' (option_in task.options.now o)
+  each o a b = rw before_is at (task.searchable.choices.options_of.each (first' - 1) o before_in a (rw before_is b))
 
-  each : (o : ℕ) → from ≤ o → o < to → option_at book' direction o ≡ step_at book' first' (option_in options o)
-  each o a b = rw before_is at (R.choices.options_of.each (first' - 1) o before_in a (rw before_is b))
-
-  step_fits : (o : ℕ) → from ≤ o → o < to → fits book' direction (step_at book' first' (option_in options o)) ≡ true
+  step_fits : (o : ℕ) → from ≤ o → o < to → fits book' direction' (step_at book' first' (option_in task.options.now o)) ≡ true
   step_fits o a b =
-      let l = R.choices.options_of.ends in
+      let l = task.searchable.choices.options_of.ends in
       let e = to_end in
-      listed_fits book' direction _ (subst (λ (s : Step). Memᴰ s (fitting_steps book' direction)) (each o a b) (get_d_mem (fitting_steps book' direction) o no_step (omega arith)))
+      listed_fits book' direction' _ (subst (λ (s : Step). Memᴰ s (fitting_steps book' direction')) (each o a b) (get_d_mem (fitting_steps book' direction') o no_step (omega arith)))
 
-  pub spot_turn : jump_from x'.state.r first' ≤ beam.setup.limit → (o : ℕ) → from ≤ o → o < to
-      → TurnOf loaded direction index beam (record { spot = spot; option = o; entry = option_in options o })
+  pub spot_turn : jump_from x'.state.r first' ≤ task.beam.setup.limit → (o : ℕ) → from ≤ o → o < to
+      → TurnOf task (record { spot = spot; option = o; entry = option_in task.options.now o })
   spot_turn near o a b =
       let e = to_end in
-      let l = R.choices.options_of.ends in
-      let m = R.prepared.entries_at.counted in
-      let q = R.choices.options_of.entries_in o (omega arith) in
+      let l = task.searchable.choices.options_of.ends in
+      let m = task.searchable.prepared.entries_at.counted in
+      let q = task.searchable.choices.options_of.entries_in o (omega arith) in
       record {
-        prepared = R.prepared;
         spot_of = S;
         near = near;
         option_in = omega arith;
@@ -223,37 +222,37 @@ module _ {loaded : List ℤ} {direction : List ℕ} {index : List ℕ} {options 
       }
 
   -- none of them may extend the state
-  spot_skips : ((o : ℕ) → from ≤ o → o < to → may_extend book' direction (key_of n' x'.state) (step_at book' first' (option_in options o)) ≡ false)
-      → {st : List ℤ} {count : ℕ} → Growing book' direction beam.width x'.size j' from st count → Growing book' direction beam.width x'.size j' to st count
+  spot_skips : ((o : ℕ) → from ≤ o → o < to → may_extend book' direction' (key_of n' x'.state) (step_at book' first' (option_in task.options.now o)) ≡ false)
+      → {st : List ℤ} {count : ℕ} → Growing book' direction' task.beam.width x'.size j' from st count → Growing book' direction' task.beam.width x'.size j' to st count
   spot_skips never {st} {count} G =
       let e = to_end in
-      let l = R.choices.options_of.ends in
+      let l = task.searchable.choices.options_of.ends in
       let r : from ≤ to = spot_rises in
       let z : from + (to - from) ≡ to = omega arith in
-      subst (λ (o : ℕ). Growing book' direction beam.width x'.size j' o st count) z
-      (skip_all book' direction beam.width x'.size j' x' S.chosen from st count (to - from) (omega arith)
-      (λ o a b. ap (may_extend book' direction (key_of n' x'.state)) (each o a (omega arith)) ∙ never o a (omega arith)) G)
+      subst (λ (o : ℕ). Growing book' direction' task.beam.width x'.size j' o st count) z
+      (skip_all book' direction' task.beam.width x'.size j' x' S.chosen from st count (to - from) (omega arith)
+      (λ o a b. ap (may_extend book' direction' (key_of n' x'.state)) (each o a (omega arith)) ∙ never o a (omega arith)) G)
 
   -- the position is out of reach
-  pub far_skips : beam.setup.limit < jump_from x'.state.r first'
-      → {st : List ℤ} {count : ℕ} → Growing book' direction beam.width x'.size j' from st count → Growing book' direction beam.width x'.size j' to st count
+  pub far_skips : task.beam.setup.limit < jump_from x'.state.r first'
+      → {st : List ℤ} {count : ℕ} → Growing book' direction' task.beam.width x'.size j' from st count → Growing book' direction' task.beam.width x'.size j' to st count
   unfolding may_extend key_of jump
   far_skips far =
       spot_skips (λ o a b.
-      let q : leb (jump_from x'.state.r first') book'.limit ≡ false = lt-leb (jump_from x'.state.r first') book'.limit (let e = R.prepared.limit_is in omega arith) in
+      let q : leb (jump_from x'.state.r first') book'.limit ≡ false = lt-leb (jump_from x'.state.r first') book'.limit (let e = task.searchable.prepared.limit_is in omega arith) in
       rw (q, and-false) refl)
 
   -- the position is covered
   pub covered_skips : spot.run ≡ 0
-      → {st : List ℤ} {count : ℕ} → Growing book' direction beam.width x'.size j' from st count → Growing book' direction beam.width x'.size j' to st count
+      → {st : List ℤ} {count : ℕ} → Growing book' direction' task.beam.width x'.size j' from st count → Growing book' direction' task.beam.width x'.size j' to st count
   unfolding may_extend key_of word_count
   covered_skips none = spot_skips (λ o a b. by o (step_fits o a b))
     where
-      by : (o : ℕ) → fits book' direction (step_at book' first' (option_in options o)) ≡ true
-          → may_extend book' direction (key_of n' x'.state) (step_at book' first' (option_in options o)) ≡ false
+      by : (o : ℕ) → fits book' direction' (step_at book' first' (option_in task.options.now o)) ≡ true
+          → may_extend book' direction' (key_of n' x'.state) (step_at book' first' (option_in task.options.now o)) ≡ false
       by o fit =
-          let step : Step = step_at book' first' (option_in options o) in
-          let F = fits_facts book' direction step fit in
+          let step : Step = step_at book' first' (option_in task.options.now o) in
+          let F = fits_facts book' direction' step fit in
           let l = F.last_to in
           let b : length (bits_of n' x'.state.covered) ≡ n' = bits_length n' x'.state.covered in
           let q : is_free step 1 (bits_of n' x'.state.covered) ≡ false =
@@ -261,28 +260,10 @@ module _ {loaded : List ℤ} {direction : List ℕ} {index : List ℕ} {options 
           ∙ lt-leb (step.last + 1 - step.first) _ (let e : free_run (drop (first' - 1) (bits_of n' x'.state.covered)) ≡ 0 = (sym S.run_is ∙ none) in let f = F.first_to in omega arith) in
           rw (q, and-false) refl
 
--- a position, with the run that was read for it
-module _ {loaded : List ℤ} {direction : List ℕ} {index : List ℕ} {options : List ℕ} {beam : Beam} {source : Source}
-    (R : Searchable loaded direction index options beam.setup) where
-  pub spot_at : Chosen (book_of loaded) direction beam.width source.place.size source.at source.place → source.at < 2 ^ 63
-      → (runs : List ℕ) → RunsFrom runs beam.setup.n source.place.state.covered 0 → (i : ℕ) → i < beam.setup.n
-      → SpotOf loaded direction beam (record { source = source; first = i + 1; run = get_or runs i 0 })
-  spot_at A small runs F i h =
-      let e = R.prepared.n_is in
-      let z : i + 1 - 1 ≡ i = omega arith in
-      record {
-        chosen = A;
-        place_small = small;
-        first_from = omega arith;
-        first_to = omega arith;
-        run_is = rw z (rw e at (F.run_at i (omega arith) (omega arith)));
-      }
-
 -- no option is done before the first position (`begins`), and all of them after the last
-pub all_done : {loaded : List ℤ} {direction : List ℕ} {index : List ℕ} {options : List ℕ} {t : Setup}
-    → Searchable loaded direction index options t → (i : ℕ) → i ≤ t.n → t.n ≤ i → length (fitting_steps (book_of loaded) direction) ≤ start_at options i
-all_done {direction} R i a b =
-    let n = R.prepared.n_is in
-    let e : i ≡ word_count direction = omega arith in
-    let l = R.choices.options_of.ends in
+pub all_done : (task : Task) (i : ℕ) → i ≤ task.beam.setup.n → task.beam.setup.n ≤ i → length (fitting_steps (book_of task.book.now) task.direction.now) ≤ start_at task.options.now i
+all_done task i a b =
+    let n = task.searchable.prepared.n_is in
+    let e : i ≡ word_count task.direction.now = omega arith in
+    let l = task.searchable.choices.options_of.ends in
     rw e (omega arith)

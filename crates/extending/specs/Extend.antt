@@ -1,16 +1,13 @@
--- What extending a state does to the store, and what the lists of a decode hold.
-use Rattle.std.specs.Prelude.{ℕ, ◌+◌, ◌-◌, ◌^◌, ◌≤◌, ◌<◌, ◌≡◌, List, ℤ, length, drop}
+-- What extending a state does to the store.
+use Rattle.std.specs.Prelude.{ℕ, ◌+◌, ◌-◌, ◌^◌, ◌≤◌, ◌<◌, ◌≡◌, List, ℤ, length, drop, Result, Ok, Err}
 use Rattle.laws.specs.Bits.{bits_of}
 use Rattle.positions.specs.Runs.{free_run}
-use Rattle.book.specs.Entries.{EntriesAt}
 use Rattle.meaning.specs.Book.{Entry, book_of}
 use Rattle.meaning.specs.Direction.{word_count}
 use Rattle.meaning.specs.Search.{step_at, fitting_steps}
 use Rattle.derivation.specs.Next.{jump_from, next_state, CanNext}
-use Rattle.options.specs.Options.{OptionsOf}
-use Rattle.derivation.specs.Prepared.{Prepared}
 use Rattle.states.specs.Ghost.{option_at, Chosen}
-use Rattle.extending.specs.declared.Beam.{Beam}
+use Rattle.extending.specs.declared.task.Task.{Task}
 use Rattle.extending.specs.declared.Spot.{Spot}
 use Rattle.extending.specs.declared.Turn.{Turn}
 use Rattle.derivation.specs.declared.Setup.{Setup}
@@ -19,9 +16,8 @@ use Rattle.states.specs.Adding.{AddedOf, IndexedAfter}
 use Rattle.store.specs.declared.Place.{Place}
 use Rattle.ways.specs.Codes.{code_of}
 use Rattle.states.specs.declared.Added.{Added}
-use Rattle.states.specs.declared.Added.TheVariants.{Replaced, Kept, Appended, Full}
-use Rattle.states.specs.declared.Grown.{Grown}
-use Rattle.states.specs.declared.Grown.TheVariants.{On, Overflow}
+use Rattle.states.specs.declared.Added.TheVariants.{Replaced, Kept, Appended}
+use Rattle.states.specs.declared.Full.{Full}
 
 -- the place after a turn by the entry e, over its positions
 unfoldable pub next_place : List ℕ → Setup → Phrase → Entry → Turn → Place
@@ -42,48 +38,34 @@ pub record CanPlace (t : Setup) (p : Phrase) (turn : Turn) : Type 0 where
   pub entry_fits : turn.entry < 65_536
 
 -- how many states there are after each answer of add_place
-abbrev pub grown_by : ℕ → Added → Grown
-grown_by count Replaced = On count
-grown_by count Kept = On count
-grown_by count Appended = On (count + 1)
-grown_by count Full = Overflow
+abbrev pub grown_by : ℕ → Result Added Full → Result ℕ Full
+grown_by count (Ok Replaced) = Ok count
+grown_by count (Ok Kept) = Ok count
+grown_by count (Ok Appended) = Ok (count + 1)
+grown_by count (Err full) = Err full
 
 -- y was added to the store
-pub record Grows (old new : List ℤ) (count : ℕ) (y : Place) (r : Grown) : Type 0 where
-  pub answer : Added
+pub record Grows (old new : List ℤ) (count : ℕ) (y : Place) (r : Result ℕ Full) : Type 0 where
+  pub answer : Result Added Full
   pub added : AddedOf old new count y answer
   pub index : IndexedAfter new count answer
   pub is : r ≡ grown_by count answer
 
--- ════ the lists of a decode
-
--- the entries' places and the steps that fit are those of this book and this direction
-pub record Choices (loaded : List ℤ) (direction : List ℕ) (index : List ℕ) (options : List ℕ) (t : Setup) : Type 0 where
-  pub n_is : t.n ≡ word_count direction
-  pub few : word_count direction ≤ 32
-  pub entries_at : EntriesAt loaded index t.phrases
-  pub options_of : OptionsOf (book_of loaded) direction options
-  pub options_small : length options < 2 ^ 63
-
--- and so is the language model: all that a search reads is there
-pub record Searchable (loaded : List ℤ) (direction : List ℕ) (index : List ℕ) (options : List ℕ) (t : Setup) : Type 0 where
-  pub prepared : Prepared loaded direction index t
-  pub choices : Choices loaded direction index options t
+-- ════ what a task's states are extended by
 
 -- the spot is a position of the direction, and its source a state that is to be extended
-pub record SpotOf (loaded : List ℤ) (direction : List ℕ) (beam : Beam) (spot : Spot) : Type 0 where
-  pub chosen : Chosen (book_of loaded) direction beam.width spot.source.place.size spot.source.at spot.source.place
+pub record SpotOf (task : Task) (spot : Spot) : Type 0 where
+  pub chosen : Chosen (book_of task.book.now) task.direction.now task.beam.width spot.source.place.size spot.source.at spot.source.place
   pub place_small : spot.source.at < 2 ^ 63
   pub first_from : 1 ≤ spot.first
-  pub first_to : spot.first ≤ word_count direction
-  pub run_is : spot.run ≡ free_run (drop (spot.first - 1) (bits_of (word_count direction) spot.source.place.state.covered))
+  pub first_to : spot.first ≤ word_count task.direction.now
+  pub run_is : spot.run ≡ free_run (drop (spot.first - 1) (bits_of (word_count task.direction.now) spot.source.place.state.covered))
 
 -- the turn's option is its entry at its spot, which is in reach
-pub record TurnOf (loaded : List ℤ) (direction : List ℕ) (index : List ℕ) (beam : Beam) (turn : Turn) : Type 0 where
-  pub prepared : Prepared loaded direction index beam.setup
-  pub spot_of : SpotOf loaded direction beam turn.spot
-  pub near : jump_from turn.spot.source.place.state.r turn.spot.first ≤ beam.setup.limit
-  pub option_in : turn.option < length (fitting_steps (book_of loaded) direction)
-  pub option_is : option_at (book_of loaded) direction turn.option ≡ step_at (book_of loaded) turn.spot.first turn.entry
+pub record TurnOf (task : Task) (turn : Turn) : Type 0 where
+  pub spot_of : SpotOf task turn.spot
+  pub near : jump_from turn.spot.source.place.state.r turn.spot.first ≤ task.beam.setup.limit
+  pub option_in : turn.option < length (fitting_steps (book_of task.book.now) task.direction.now)
+  pub option_is : option_at (book_of task.book.now) task.direction.now turn.option ≡ step_at (book_of task.book.now) turn.spot.first turn.entry
   pub entry_from : 1 ≤ turn.entry
-  pub entry_to : turn.entry ≤ beam.setup.phrases
+  pub entry_to : turn.entry ≤ task.beam.setup.phrases

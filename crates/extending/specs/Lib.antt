@@ -1,1 +1,2 @@
 pub mod Extend
+pub mod Searchable

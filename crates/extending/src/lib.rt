@@ -8,11 +8,14 @@ ghost use Rattle.options.specs.Options.{start_at};
 ghost use Rattle.store.specs.Store.{Indexed, Storable};
 ghost use Rattle.states.specs.Order.{Leading};
 ghost use Rattle.states.specs.Ghost.{Chosen, Growing, Grew, Levelled};
-ghost use Rattle.extending.specs.Extend.{Grows, next_place, CanPlace, Searchable, SpotOf, TurnOf};
+ghost use Rattle.extending.specs.Extend.{Grows, next_place, CanPlace, SpotOf, TurnOf};
 
+use crate::task::Task;
 use derivation::{Phrase, Setup};
-use states::{Added, Grown};
+use states::{Added, Full};
 use store::Place;
+
+pub mod task;
 
 // What is searched: the numbers of the book and the direction, and the beam's width (-1: pruning off).
 #[derive(Clone, Copy)]
@@ -65,117 +68,87 @@ fn next_place(book: &[i32], index: &[u16], t: Setup, p: Phrase, turn: Turn) -> P
 }
 
 // The state y is added to the count states of the store: how many there are then, or the store is too small.
-fn grow(store: &mut [i64], count: usize, y: Place) -> Grown
+fn grow(store: &mut [i64], count: usize, y: Place) -> Result<usize, Full>
     requires indexed { Indexed store.old count }
     requires storable { Storable y }
     requires leading { Leading store.old count y }
     ensures { Grows store.old store.new count y result }
 {
-    match states::adding::add_place(store, count, y) {
-        Added::Replaced => Grown::On(count),
-        Added::Kept => Grown::On(count),
-        Added::Appended => Grown::On(count + 1),
-        Added::Full => Grown::Overflow,
+    match states::adding::add_place(store, count, y)? {
+        Added::Replaced | Added::Kept => Ok(count),
+        Added::Appended => Ok(count + 1),
     }
 }
 
 // The state is extended by the option of this turn, if the free positions are enough for it. How many states there are then, or
-// the store is too small. (`direction` is for the contract.)
+// the store is too small.
 fn extend_option(
     store: &mut [i64],
     count: usize,
-    book: &[i32],
-    direction: &[u16],
-    index: &[u16],
-    beam: Beam,
+    task: &Task<'_>,
     turn: Turn,
-) -> Grown
-    requires turn_of { TurnOf book.now direction.now index.now beam turn }
-    requires growing { Growing (book_of book.now) direction.now beam.width turn.spot.source.place.size turn.spot.source.at turn.option store.old count }
-    ensures { Grew (book_of book.now) direction.now beam.width turn.spot.source.place.size turn.spot.source.at (turn.option + 1) store.new result }
+) -> Result<usize, Full>
+    requires turn_of { TurnOf task.now turn }
+    requires growing { Growing (book_of task.now.book.now) task.now.direction.now task.now.beam.width turn.spot.source.place.size turn.spot.source.at turn.option store.old count }
+    ensures { Grew (book_of task.now.book.now) task.now.direction.now task.now.beam.width turn.spot.source.place.size turn.spot.source.at (turn.option + 1) store.new result }
 {
-    let t = beam.setup;
-    let p = derivation::places::phrase_at(book, index, t.phrases, turn.entry);
+    let t = task.beam.setup;
+    let p = derivation::places::phrase_at(task.book, task.index, t.phrases, turn.entry);
     if turn.spot.run < p.long {
-        return Grown::On(count);
+        return Ok(count);
     }
-    let y = next_place(book, index, t, p, turn);
+    let y = next_place(task.book, task.index, t, p, turn);
     grow(store, count, y)
 }
 
 // It is extended by the options of a position: by none where that is covered, or out of reach.
-fn extend_at(
-    store: &mut [i64],
-    count: usize,
-    book: &[i32],
-    direction: &[u16],
-    index: &[u16],
-    options: &[u16],
-    beam: Beam,
-    spot: Spot,
-) -> Grown
-    requires searchable { Searchable book.now direction.now index.now options.now beam.setup }
-    requires spot_of { SpotOf book.now direction.now beam spot }
-    requires growing { Growing (book_of book.now) direction.now beam.width spot.source.place.size spot.source.at (start_at options.now (spot.first - 1)) store.old count }
-    ensures { Grew (book_of book.now) direction.now beam.width spot.source.place.size spot.source.at (start_at options.now spot.first) store.new result }
+fn extend_at(store: &mut [i64], count: usize, task: &Task<'_>, spot: Spot) -> Result<usize, Full>
+    requires spot_of { SpotOf task.now spot }
+    requires growing { Growing (book_of task.now.book.now) task.now.direction.now task.now.beam.width spot.source.place.size spot.source.at (start_at task.now.options.now (spot.first - 1)) store.old count }
+    ensures { Grew (book_of task.now.book.now) task.now.direction.now task.now.beam.width spot.source.place.size spot.source.at (start_at task.now.options.now spot.first) store.new result }
 {
     if spot.run == 0 {
-        return Grown::On(count);
+        return Ok(count);
     }
-    if beam.setup.limit < derivation::step::jump(spot.source.place.state.r as usize, spot.first) {
-        return Grown::On(count);
+    let r = usize::from(spot.source.place.state.r);
+    if task.beam.setup.limit < derivation::step::jump(r, spot.first) {
+        return Ok(count);
     }
-    let to = options::start_at(options, spot.first);
+    let from = options::start_at(task.options, spot.first - 1);
+    let to = options::start_at(task.options, spot.first);
     let mut c = count;
-    let mut o = options::start_at(options, spot.first - 1);
-    while o < to {
-        let entry = options::option_at(options, o) as usize;
+    for option in from..to {
+        let entry = usize::from(options::option_at(task.options, option));
         let turn = Turn {
             spot,
-            option: o,
+            option,
             entry,
         };
-        let Grown::On(more) = extend_option(store, c, book, direction, index, beam, turn) else {
-            return Grown::Overflow;
-        };
-        c = more;
-        o += 1;
+        c = extend_option(store, c, task, turn)?;
     }
-    Grown::On(c)
+    Ok(c)
 }
 
 // It is extended by every option: those of the first position, then those of the second, and so on.
 pub fn extend_all(
     store: &mut [i64],
     count: usize,
-    book: &[i32],
-    direction: &[u16],
-    index: &[u16],
-    options: &[u16],
-    beam: Beam,
+    task: &Task<'_>,
     source: Source,
-) -> Grown
-    requires searchable { Searchable book.now direction.now index.now options.now beam.setup }
-    requires chosen { Chosen (book_of book.now) direction.now beam.width source.place.size source.at source.place × (source.at < 2 ^ 63) }
-    requires growing { Growing (book_of book.now) direction.now beam.width source.place.size source.at (0) store.old count }
-    ensures { Levelled (book_of book.now) direction.now beam.width source.place.size (source.at + 1) store.new result }
+) -> Result<usize, Full>
+    requires chosen { Chosen (book_of task.now.book.now) task.now.direction.now task.now.beam.width source.place.size source.at source.place × (source.at < 2 ^ 63) }
+    requires growing { Growing (book_of task.now.book.now) task.now.direction.now task.now.beam.width source.place.size source.at (0) store.old count }
+    ensures { Levelled (book_of task.now.book.now) task.now.direction.now task.now.beam.width source.place.size (source.at + 1) store.new result }
 {
-    let runs = positions::free_runs(source.place.state.covered, beam.setup.n);
-    let run = runs.run;
+    let runs = positions::free_runs(source.place.state.covered, task.beam.setup.n);
     let mut c = count;
-    let mut i = 0;
-    while i < beam.setup.n {
+    for i in 0..task.beam.setup.n {
         let spot = Spot {
             source,
             first: i + 1,
-            run: run[i] as usize,
+            run: usize::from(runs.run[i]),
         };
-        let Grown::On(more) = extend_at(store, c, book, direction, index, options, beam, spot)
-        else {
-            return Grown::Overflow;
-        };
-        c = more;
-        i += 1;
+        c = extend_at(store, c, task, spot)?;
     }
-    Grown::On(c)
+    Ok(c)
 }

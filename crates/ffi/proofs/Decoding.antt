@@ -6,7 +6,7 @@ use lib.IntN.{ℤ}
 use lib.ListN.{length}
 use Rattle.meaning.specs.Book.{book_of}
 use Rattle.meaning.specs.Search.{answer}
-use Rattle.meaning.specs.Reply.{Reply, Lent, written_over, filled_with, decoded_reply, decode_refusal, answer_steps}
+use Rattle.meaning.specs.Reply.{Reply, Lent, written_over, filled_with, reply_of, decode_refusal, answer_steps}
 use Rattle.meaning.specs.declared.Answer.{Answer}
 use Rattle.meaning.specs.declared.Step.{Step}
 use Rattle.records.specs.Plain.{steps_of}
@@ -30,8 +30,8 @@ module _ (loaded : List ℤ) (direction : List ℕ) (width : ℤ) (steps₀ step
     into : PlainDecodes loaded direction width lent.steps words₀ words₁ store₀ store₁ core
     into = subst (λ (room : ℕ). PlainDecodes loaded direction width room words₀ words₁ store₀ store₁ core) (sym (how_many steps₀)) c
 
-    pub decoded_numbers_lem : (report₀ report₁ : List ℤ) (result : ℤ) → steps₁ ≡ written_over (numbers_of (steps_of core.plain)) steps₀ → result ≡ zero_or_refusal (decoded_reply core.reply)
-        → report₁ ≡ filled_with (decode_report (decoded_reply core.reply)) report₀
+    pub decoded_numbers_lem : (report₀ report₁ : List ℤ) (result : ℤ) → steps₁ ≡ written_over (numbers_of (steps_of core.plain)) steps₀ → result ≡ zero_or_refusal (reply_of core.reply)
+        → report₁ ≡ filled_with (decode_report (reply_of core.reply)) report₀
         → DecodesNumbers loaded direction width steps₀ steps₁ words₀ words₁ store₀ store₁ report₀ report₁ result
     unfolding decoded_numbers
     decoded_numbers_lem report₀ report₁ result p e r =

@@ -2,9 +2,8 @@
 #![tactic(auto)]
 
 ghost use Rattle.std.specs.Prelude.{◌≡◌, pos, length};
-ghost use Rattle.meaning.specs.Questions.{number};
 ghost use Rattle.meaning.specs.Book.{book_refusal, target_part};
-ghost use Rattle.meaning.specs.Reply.{read_reply, read_book, read_book_list, read_direction, read_direction_list, written_if, filled_with, score_proposal};
+ghost use Rattle.meaning.specs.Reply.{reply_of, read_book, read_book_list, read_direction, read_direction_list, written_if, filled_with, score_proposal};
 ghost use Rattle.meaning.specs.Revision.{add_entry, add_entry_list, remove_entry, remove_entry_list};
 ghost use Rattle.arpa.specs.Import.{import_arpa, import_arpa_list};
 ghost use Rattle.ffi.specs.Bounds.{Counted};
@@ -13,23 +12,26 @@ ghost use Rattle.meaning.specs.Sheet.{sheet_refusal, round_sheet, sheet_reply};
 ghost use Rattle.lists.specs.Steps.{records_in, lent_numbers, as_numbers};
 ghost use Rattle.ffi.specs.Calls.{count_or_refusal, zero_or_refusal, score_report, DecodesNumbers};
 
-use meaning::{Checked, Decoded, Read, Refusal, Scored};
-
-// The refusal's number as C has it.
-fn code_of(refusal: Refusal) -> i32
-    ensures { result ≡ pos (number refusal) }
-{
-    meaning::number_of(refusal) as i32
-}
+use meaning::Refusal;
 
 // How many numbers were read, or are in use, or minus the refusal.
-fn count_or_refusal(reply: Read) -> i64
+fn count_or_refusal(reply: Result<usize, Refusal>) -> i64
     requires { Counted reply }
-    ensures { result ≡ count_or_refusal (read_reply reply) }
+    ensures { result ≡ count_or_refusal (reply_of reply) }
 {
     match reply {
-        Read::Numbers(n) => n as i64,
-        Read::Refused(refusal) => 0 - meaning::number_of(refusal) as i64,
+        Ok(n) => n as i64,
+        Err(refusal) => -(meaning::number_of(refusal) as i64),
+    }
+}
+
+// 0, or the refusal.
+fn zero_or_refusal<T>(reply: &Result<T, Refusal>) -> i32
+    ensures { result ≡ zero_or_refusal (reply_of reply.now) }
+{
+    match reply {
+        Ok(_) => 0,
+        Err(refusal) => meaning::number_of(*refusal) as i32,
     }
 }
 
@@ -55,10 +57,7 @@ pub fn phrase_read_direction(text: &[u8], direction: &mut [u16]) -> i64
 pub fn phrase_check_book(book: &[i32]) -> i32
     ensures { result ≡ pos (book_refusal book.now) }
 {
-    match loading::check::check_book(book) {
-        Checked::Passed => 0,
-        Checked::Refused(refusal) => code_of(refusal),
-    }
+    zero_or_refusal(&loading::check::check_book(book))
 }
 
 // Adds a P line, given as loaded numbers, to a loaded book: how many numbers are then in use, or minus the refusal.
@@ -110,13 +109,11 @@ pub fn phrase_score(book: &[i32], direction: &[u16], steps: &[u16], report: &mut
     ensures report_after { report.new ≡ filled_with (score_report (score_proposal book.now direction.now (records_in steps.now))) report.old }
 {
     let plain = lists::steps::gather(steps);
-    match scoring::score_plain(book, direction, plain) {
-        Scored::Done(totals) => {
-            lists::report::put_totals(report, totals);
-            0
-        }
-        Scored::Refused(refusal) => code_of(refusal),
+    let reply = scoring::score_plain(book, direction, plain);
+    if let Ok(totals) = reply {
+        lists::report::put_totals(report, totals);
     }
+    zero_or_refusal(&reply)
 }
 
 // Finds the best derivation: 0, or the refusal; the report is the score, how many steps, words and states there are, and how many target words were
@@ -137,13 +134,10 @@ pub fn phrase_decode(
     let plain = told.plain;
     lists::steps::put_all(steps, plain);
     let reply = told.reply;
-    match reply {
-        Decoded::Done(a) => {
-            lists::report::put_answer(report, a);
-            0
-        }
-        Decoded::Refused(refusal) => code_of(refusal),
+    if let Ok(a) = reply {
+        lists::report::put_answer(report, a);
     }
+    zero_or_refusal(&reply)
 }
 
 // Decodes a round's directions, one after the other: 0, or the refusal of the whole round; nine numbers of `answers` to a direction are its answer, 0 or the
@@ -161,10 +155,8 @@ pub fn phrase_decode_round(
     ensures value { result ≡ zero_or_refusal (decode_round book.now directions.now ends.now (lent_numbers steps.old words.old store.old) (length answers.old)) }
     ensures round_lists { RoundLists as_numbers (round_refusal book.now directions.now ends.now (lent_numbers steps.old words.old store.old) (length answers.old)) book.now (directions_of directions.now ends.now) width steps.old steps.new words.old words.new store.old store.new answers.old answers.new }
 {
-    match rounds::decode_round(book, directions, ends, width, steps, words, store, answers) {
-        Checked::Passed => 0i32,
-        Checked::Refused(refusal) => code_of(refusal),
-    }
+    let reply = rounds::decode_round(book, directions, ends, width, steps, words, store, answers);
+    zero_or_refusal(&reply)
 }
 
 // Decodes a round's directions as `phrase_decode_round` does, and puts the sheet of their answers at the beginning of `sheet`: its length, or minus the

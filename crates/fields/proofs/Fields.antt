@@ -1,28 +1,24 @@
 -- A field read at once is its bytes read one at a time: over its digits, at its mark, and where it is not as it should be.
 use mathlib.Core.Path.{◌≡◌, refl, sym, ap, ◌∙◌, subst}
 use mathlib.Core.Bool.{Bool, true, false, cond, ◌&&◌}
-use mathlib.Core.List.{List, []}
+use mathlib.Core.List.{List}
 use Prim.Native.Nat.{ℕ, zero, suc, ◌+◌, ◌*◌, ◌-◌, ◌≤◌, ◌<◌}
 use native.Mathlib.Omega.{arith}
-use borrow.Author.Tests.{leb-true, leb-false, ne_eqb}
-use lib.Dec.{leb}
+use Rattle.std.proofs.Common.{Option, Some, None}
+use borrow.Author.Tests.{eqb-false, leb-true, leb-false, le-leb, ne_eqb}
+use lib.Dec.{leb, eqb}
 use lib.IntN.{ℤ, pos}
-use lib.Signed.{le_z}
 use lib.ListN.{length, drop, get_or, drop_of_length-le}
 use Rattle.laws.proofs.Tests.{both, by_test, clash, between}
-use Rattle.laws.proofs.Linear.{signed as linear}
 use Rattle.laws.proofs.Lists.{drop_next}
 use Rattle.meaning.specs.Numerals.{is_digit}
 use Rattle.meaning.specs.Book.{kind_of_byte}
-use Rattle.fields.specs.Scan.{Scan, Line, Kind, Field, Minus, Digits, Broken, more_digits, next, run, at_line, signed, after_letter, letter_kind, emit}
-use Rattle.fields.specs.Fields.{start, Onward, FieldRead}
+use Rattle.fields.specs.Scan.{Scan, Line, Kind, Field, Minus, Digits, Broken, more_digits, next, run, at_line, after_letter, kind_number, letter_kind}
+use Rattle.fields.specs.Fields.{Onward, PieceRead, FieldRead}
 use Rattle.fields.specs.declared.Piece.{Piece}
 use Rattle.fields.proofs.Form.{broken}
 
 -- ════ bytes that are no mark
-
-pub on_start : {book : Bool} {t : List ℕ} {s : Scan} {i : ℕ} → Onward book t s i s i
-on_start = record { ends = refl; gives = refl; row = refl; long = refl }
 
 pub on_more : {book : Bool} {t : List ℕ} {s s' s'' : Scan} {i j k : ℕ} → Onward book t s i s' j → Onward book t s' j s'' k → Onward book t s i s'' k
 on_more a b = record { ends = a.ends ∙ b.ends; gives = a.gives ∙ b.gives; row = a.row ∙ b.row; long = a.long ∙ b.long }
@@ -57,28 +53,32 @@ module _ (book : Bool) (t : List ℕ) (i : ℕ) (h : i < length t) where
   pub on_negative : (get_or t i 0 ≡ 48 → ⊥) → is_digit (get_or t i 0) ≡ true → Onward book t Minus i (Digits true (get_or t i 0 - 48)) (i + 1)
   on_negative n d = on_number Minus (Digits true (get_or t i 0 - 48)) d (rw (ne_eqb (get_or t i 0) 48 n, d))
 
+-- a byte 48 to 57 is a digit
+pub digit : (b : ℕ) → 48 ≤ b → b ≤ 57 → is_digit b ≡ true
+digit b l h = rw (le-leb 48 b l, le-leb b 57 h)
+
+no_digit : (b : ℕ) → (48 ≤ b → b ≤ 57 → ⊥) → is_digit b ≡ false
+no_digit b n = by_test (is_digit b) (λ d. let h = between 48 57 b d in absurd (n h.0 h.1)) (λ e. e)
+
+-- a byte that begins no number, or none behind a minus
+pub no_number : (book : Bool) (b : ℕ) → (b ≡ 45 → ⊥) → (48 ≤ b → b ≤ 57 → ⊥) → next book Field b ≡ Broken
+no_number book b m n = rw (ne_eqb b 45 m, no_digit b n)
+
+pub no_negative : (book : Bool) (b : ℕ) → (49 ≤ b → b ≤ 57 → ⊥) → next book Minus b ≡ Broken
+no_negative book b n = by_test (eqb b 48) (λ e. rw e) (λ e. let z = eqb-false b 48 e in rw (e, no_digit b (λ l h. n (omega arith) h)))
+
 -- ════ a field and its mark
 
 -- a field that goes on from a later place
-pub field_on : {book : Bool} {t : List ℕ} {s s' : Scan} {i j : ℕ} {r : Piece} → Onward book t s i s' j → i ≤ j → FieldRead book s' t j r → FieldRead book s t i r
-field_on o h f = record {
+pub field_on : {book : Bool} {t : List ℕ} {s s' : Scan} {i j : ℕ} (r : Option Piece) → Onward book t s i s' j → i ≤ j → FieldRead book s' t j r → FieldRead book s t i r
+field_on None o h f = ap at_line o.ends ∙ f
+field_on (Some r) o h f = record {
   ends = ap at_line o.ends ∙ f.ends;
-  gives = λ g. o.gives ∙ f.gives g;
-  row = λ g. o.row ∙ f.row g;
-  long = λ g. o.long ∙ f.long g;
-  later = λ g. let l = f.later g in omega arith;
+  gives = o.gives ∙ f.gives;
+  row = o.row ∙ f.row;
+  long = o.long ∙ f.long;
+  later = let l = f.later in omega arith;
   within = f.within;
-}
-
--- a field that is not as it should be
-pub field_bad : {book : Bool} {t : List ℕ} {s : Scan} {i : ℕ} (r : Piece) → r.good ≡ false → at_line (run book s (drop i t)) ≡ false → FieldRead book s t i r
-field_bad {book} {t} r g e = record {
-  ends = e ∙ ap (λ (x : Bool). x && at_line (run book (start r.last) (drop r.end t))) (sym g);
-  gives = λ y. clash y g;
-  row = λ y. clash y g;
-  long = λ y. clash y g;
-  later = λ y. clash y g;
-  within = λ y. clash y g;
 }
 
 -- what breaks the text
@@ -89,28 +89,8 @@ bad_byte book t i s h e =
 pub bad_end : (book : Bool) (t : List ℕ) (i : ℕ) (s : Scan) → length t ≤ i → at_line s ≡ false → at_line (run book s (drop i t)) ≡ false
 bad_end book t i s h e = rw (drop_of_length-le t h) e
 
--- the mark behind a number
+-- no mark behind a number
 module _ (book : Bool) (t : List ℕ) (i : ℕ) (h : i < length t) (minus : Bool) (v : ℕ) where
-  pub at_comma : get_or t i 0 ≡ 44 → FieldRead book (Digits minus v) t i (record { number = signed minus v; end = i + 1; good = true; last = false })
-  at_comma e = record {
-    ends = rw (drop_next t i 0 h, e);
-    gives = λ g. rw (drop_next t i 0 h, e);
-    row = λ g. rw (drop_next t i 0 h, e);
-    long = λ g. rw (drop_next t i 0 h, e) (omega arith);
-    later = λ g. omega arith;
-    within = λ g. omega arith;
-  }
-
-  pub at_newline : get_or t i 0 ≡ 10 → FieldRead book (Digits minus v) t i (record { number = signed minus v; end = i + 1; good = true; last = true })
-  at_newline e = record {
-    ends = rw (drop_next t i 0 h, e);
-    gives = λ g. rw (drop_next t i 0 h, e);
-    row = λ g. rw (drop_next t i 0 h, e);
-    long = λ g. rw (drop_next t i 0 h, e) (omega arith);
-    later = λ g. omega arith;
-    within = λ g. omega arith;
-  }
-
   pub no_mark : is_digit (get_or t i 0) && more_digits v ≡ false → (get_or t i 0 ≡ 44 → ⊥) → (get_or t i 0 ≡ 10 → ⊥) → at_line (run book (Digits minus v) (drop i t)) ≡ false
   no_mark e a b = bad_byte book t i (Digits minus v) h (rw (ne_eqb (get_or t i 0) 44 a, ne_eqb (get_or t i 0) 10 b) (by (is_digit (get_or t i 0)) (more_digits v) e))
     where
@@ -122,77 +102,46 @@ module _ (book : Bool) (t : List ℕ) (i : ℕ) (h : i < length t) (minus : Bool
 -- ════ a line's letter
 
 -- by the byte's kind
-pub letter_next : (b : ℕ) → le_z (letter_kind b) (pos 0) ≡ false → next true Line b ≡ Kind (letter_kind b)
-letter_next b e = by (kind_of_byte b) e
+pub letter_next : (b : ℕ) (k : ℤ) → letter_kind b ≡ Some k → next true Line b ≡ Kind k
+letter_next b k e = by (kind_of_byte b) e
   where
-    by : (k : ℕ) → le_z (pos k) (pos 0) ≡ false → after_letter k ≡ Kind (pos k)
-    by zero e = clash refl e
-    by (suc k) e = refl
+    by : (n : ℕ) → kind_number n ≡ Some k → after_letter n ≡ Kind k
+    by zero e = absurd (cc)
+    by (suc n) e = let q : pos (suc n) ≡ k = cc in ap Kind q
 
-pub no_letter : (b : ℕ) → le_z (letter_kind b) (pos 0) ≡ true → next true Line b ≡ Broken
+pub no_letter : (b : ℕ) → letter_kind b ≡ None → next true Line b ≡ Broken
 no_letter b e = by (kind_of_byte b) e
   where
-    by : (k : ℕ) → le_z (pos k) (pos 0) ≡ true → after_letter k ≡ Broken
+    by : (n : ℕ) → kind_number n ≡ None → after_letter n ≡ Broken
     by zero e = refl
-    by (suc k) e = absurd (omega (arith, linear))
+    by (suc n) e = absurd (cc)
 
 -- the letter alone
-module _ (t : List ℕ) (i : ℕ) (h : i < length t) (e : le_z (letter_kind (get_or t i 0)) (pos 0) ≡ false) where
-  not_mark : (m : ℕ) → le_z (letter_kind m) (pos 0) ≡ true → get_or t i 0 ≡ m → ⊥
-  not_mark m f q = clash (ap (λ (x : ℕ). le_z (letter_kind x) (pos 0)) q ∙ f) e
+module _ (t : List ℕ) (i : ℕ) (h : i < length t) (k : ℤ) (e : letter_kind (get_or t i 0) ≡ Some k) where
+  not_mark : (m : ℕ) → letter_kind m ≡ None → get_or t i 0 ≡ m → ⊥
+  not_mark m f q = let g = ap letter_kind q in cc
 
-  pub on_letter : Onward true t Line i (Kind (letter_kind (get_or t i 0))) (i + 1)
+  pub on_letter : Onward true t Line i (Kind k) (i + 1)
   unfolding kind_of_byte
-  on_letter = on_byte true t i h Line (Kind (letter_kind (get_or t i 0))) (letter_next (get_or t i 0) e) (not_mark 10 refl) (not_mark 44 refl)
+  on_letter = on_byte true t i h Line (Kind k) (letter_next (get_or t i 0) k e) (not_mark 10 refl) (not_mark 44 refl)
 
--- with its comma
-pub at_letter : (t : List ℕ) (i : ℕ) → i + 1 < length t → le_z (letter_kind (get_or t i 0)) (pos 0) ≡ false → get_or t (i + 1) 0 ≡ 44
-    → FieldRead true Line t i (record { number = letter_kind (get_or t i 0); end = i + 2; good = true; last = false })
-at_letter t i h e c = field_on (on_letter t i (omega arith) e) (omega arith) (by (letter_kind (get_or t i 0)))
-  where
-    two : i + 1 + 1 ≡ i + 2
-    two = omega arith
+  -- with its comma
+  pub at_letter : i + 1 < length t → get_or t (i + 1) 0 ≡ 44 → PieceRead true Line t i (record { number = k; end = i + 2; last = false })
+  at_letter l c = field_on (Some (record { number = k; end = i + 2; last = false })) on_letter (omega arith) (record {
+    ends = rw (drop_next t (i + 1) 0 l, c, two);
+    gives = rw (drop_next t (i + 1) 0 l, c, two);
+    row = rw (drop_next t (i + 1) 0 l, c, two);
+    long = rw (drop_next t (i + 1) 0 l, c, two) (omega arith);
+    later = omega arith;
+    within = omega arith;
+  })
+    where
+      two : i + 1 + 1 ≡ i + 2
+      two = omega arith
 
-    by : (k : ℤ) → FieldRead true (Kind k) t (i + 1) (record { number = k; end = i + 2; good = true; last = false })
-    by k = record {
-      ends = rw (drop_next t (i + 1) 0 h, c, two);
-      gives = λ g. rw (drop_next t (i + 1) 0 h, c, two);
-      row = λ g. rw (drop_next t (i + 1) 0 h, c, two);
-      long = λ g. rw (drop_next t (i + 1) 0 h, c, two) (omega arith);
-      later = λ g. omega arith;
-      within = λ g. omega arith;
-    }
-
--- without it
-pub no_comma : (t : List ℕ) (i : ℕ) → i < length t → le_z (letter_kind (get_or t i 0)) (pos 0) ≡ false → (i + 1 < length t → get_or t (i + 1) 0 ≡ 44 → ⊥)
-    → at_line (run true Line (drop i t)) ≡ false
-no_comma t i h e c = ap at_line (on_letter t i h e).ends ∙ by (letter_kind (get_or t i 0))
-  where
-    by : (k : ℤ) → at_line (run true (Kind k) (drop (i + 1) t)) ≡ false
-    by k =
-        by_test (leb (length t) (i + 1)) (λ q. bad_end true t (i + 1) (Kind k) (leb-true _ _ q) refl)
-        (λ q. bad_byte true t (i + 1) (Kind k) (leb-false _ _ q) (rw (ne_eqb (get_or t (i + 1) 0) 44 (c (leb-false _ _ q)))))
-
--- ════ for a walk over the fields
-
-module _ {book : Bool} {s : Scan} {t : List ℕ} {at : ℕ} {r : Piece} (f : FieldRead book s t at r) where
-  -- in a text that ends with a line every field is good
-  pub field_good : at_line (run book s (drop at t)) ≡ true → r.good ≡ true
-  field_good e = (both r.good (at_line (run book (start r.last) (drop r.end t))) (sym f.ends ∙ e)).0
-
-  pub field_ends : r.good ≡ true → at_line (run book s (drop at t)) ≡ at_line (run book (start r.last) (drop r.end t))
-  field_ends g = f.ends ∙ ap (λ (x : Bool). x && at_line (run book (start r.last) (drop r.end t))) g
-
-  pub field_broken : r.good ≡ false → at_line (run book s (drop at t)) ≡ false
-  field_broken g = f.ends ∙ ap (λ (x : Bool). x && at_line (run book (start r.last) (drop r.end t))) g
-
--- at the text's end
-pub walk_end : (book line : Bool) (t : List ℕ) (i : ℕ) → length t ≤ i → at_line (run book (start line) (drop i t)) ≡ line
-walk_end book line t i h = rw (drop_of_length-le t h) (by line)
-  where
-    by : (x : Bool) → at_line (start x) ≡ x
-    by true = refl
-    by false = refl
-
-pub emit_end : (book : Bool) (s : Scan) (t : List ℕ) (i : ℕ) → length t ≤ i → emit book s (drop i t) ≡ []
-emit_end book s t i h = rw (drop_of_length-le t h)
+  -- without it
+  pub no_comma : (i + 1 < length t → get_or t (i + 1) 0 ≡ 44 → ⊥) → at_line (run true Line (drop i t)) ≡ false
+  no_comma c =
+      ap at_line on_letter.ends
+      ∙ by_test (leb (length t) (i + 1)) (λ q. bad_end true t (i + 1) (Kind k) (leb-true _ _ q) refl)
+      (λ q. bad_byte true t (i + 1) (Kind k) (leb-false _ _ q) (rw (ne_eqb (get_or t (i + 1) 0) 44 (c (leb-false _ _ q)))))

@@ -1,5 +1,5 @@
 -- A text read a field at a time: what the reading of a field leaves of the text, in the terms of Scan.
-use Rattle.std.specs.Prelude.{ℕ, ◌+◌, ◌≤◌, ◌<◌, ◌≡◌, Bool, true, false, cond, ◌&&◌, List, [], ◌∷◌, length, drop, get_or, eqb}
+use Rattle.std.specs.Prelude.{ℕ, ◌+◌, ◌≤◌, ◌<◌, ◌≡◌, Bool, false, cond, ◌&&◌, List, [], ◌∷◌, Option, Some, None, length, drop, get_or, eqb}
 use Rattle.meaning.specs.Numerals.{is_digit, newline}
 use Rattle.fields.specs.Scan.{Scan, Line, Field, Digits, more_digits, run, at_line, emit, emit_line}
 use Rattle.fields.specs.declared.Numeral.{Numeral}
@@ -33,11 +33,16 @@ pub record DigitsRead (t : List ℕ) (at v : ℕ) (r : Numeral) : Type 0 where
   pub later : at ≤ r.end
   pub within : r.end ≤ length t
 
--- a field was read from `at` on, with its mark, where it is as it should be
-pub record FieldRead (book : Bool) (s : Scan) (t : List ℕ) (at : ℕ) (r : Piece) : Type 0 where
-  pub ends : at_line (run book s (drop at t)) ≡ r.good && at_line (run book (start r.last) (drop r.end t))
-  pub gives : r.good ≡ true → emit book s (drop at t) ≡ r.number ∷ emit book (start r.last) (drop r.end t)
-  pub row : r.good ≡ true → emit_line book s (drop at t) ≡ r.number ∷ cond r.last [] (emit_line book Field (drop r.end t))
-  pub long : r.good ≡ true → at + line_length (drop at t) ≡ r.end + cond r.last 0 (line_length (drop r.end t))
-  pub later : r.good ≡ true → at < r.end
-  pub within : r.good ≡ true → r.end ≤ length t
+-- r was read from `at` on, a field that is as it should be, with its mark
+pub record PieceRead (book : Bool) (s : Scan) (t : List ℕ) (at : ℕ) (r : Piece) : Type 0 where
+  pub ends : at_line (run book s (drop at t)) ≡ at_line (run book (start r.last) (drop r.end t))
+  pub gives : emit book s (drop at t) ≡ r.number ∷ emit book (start r.last) (drop r.end t)
+  pub row : emit_line book s (drop at t) ≡ r.number ∷ cond r.last [] (emit_line book Field (drop r.end t))
+  pub long : at + line_length (drop at t) ≡ r.end + cond r.last 0 (line_length (drop r.end t))
+  pub later : at < r.end
+  pub within : r.end ≤ length t
+
+-- a field was read from `at` on; where there is none, the text is not as it should be
+abbrev pub FieldRead : Bool → Scan → List ℕ → ℕ → Option Piece → Type 0
+FieldRead book s t at None = at_line (run book s (drop at t)) ≡ false
+FieldRead book s t at (Some r) = PieceRead book s t at r

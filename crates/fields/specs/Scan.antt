@@ -1,6 +1,6 @@
 -- A text read a byte at a time: what may follow what has been read, and the number that a comma or a byte 10 ends.
 -- What a text is and says is stated in notes' specs (Numerals, Book, Direction); proofs/Form and proofs/Numbers have that both agree.
-use Rattle.std.specs.Prelude.{ℕ, zero, suc, ◌+◌, ◌*◌, ◌-◌, Bool, true, false, cond, ◌||◌, List, [], ◌∷◌, eqb, ℤ, pos, neg_ℤ}
+use Rattle.std.specs.Prelude.{ℕ, zero, suc, ◌+◌, ◌*◌, ◌-◌, Bool, true, false, cond, ◌||◌, List, [], ◌∷◌, Option, Some, None, eqb, ℤ, pos, neg_ℤ}
 use Rattle.meaning.specs.Questions.{within}
 use Rattle.meaning.specs.Numerals.{newline, comma, minus, zero_digit, is_digit}
 use Rattle.meaning.specs.Book.{kind_of_byte}
@@ -31,9 +31,14 @@ after_letter (suc k) = Kind (pos (suc k))
 abbrev pub line_start : Bool → ℕ → Scan
 line_start book b = cond book (after_letter (kind_of_byte b)) Broken
 
--- its kind, and 0 of another byte
-abbrev pub letter_kind : ℕ → ℤ
-letter_kind b = pos (kind_of_byte b)
+-- a kind as a number of its line; 0 is no kind
+abbrev pub kind_number : ℕ → Option ℤ
+kind_number zero = None
+kind_number (suc k) = Some (pos (suc k))
+
+-- the kind of a letter; another byte has none
+abbrev pub letter_kind : ℕ → Option ℤ
+letter_kind b = kind_number (kind_of_byte b)
 
 abbrev pub after_kind : ℕ → Scan
 after_kind b = cond (eqb b comma) Field Broken

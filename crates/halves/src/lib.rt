@@ -6,19 +6,20 @@ ghost use Rattle.std.specs.Prelude.{◌≡◌, ◌+◌, ◌^◌, ◌<◌, length
 ghost use Rattle.laws.specs.Lists.{set_from};
 ghost use Rattle.halves.specs.Halves.{half_span, halves_of, whole_at, shifted, signed_at};
 
-const HALF_SPAN: usize = 65536;
+const HALF_SPAN: usize = 65_536;
 
-const SIGN_SHIFT: i64 = 2147483648;
+const SIGN_SHIFT: i64 = 2_147_483_648;
 
 // Number k of the list.
 pub fn number_at(list: &[u16], k: usize) -> usize
     requires { k < length list.now }
     ensures { (result ≡ get_or list.now k 0) × (result < half_span) }
 {
-    list[k] as usize
+    usize::from(list[k])
 }
 
 // The number whose halves stand at `at` and behind it.
+#[tactic(auto, unfolding(crate::specs::Halves::whole_at))]
 pub fn whole_at(list: &[u16], at: usize) -> usize
     requires { at + 1 < length list.now }
     ensures { (result ≡ whole_at list.now at) × (result < 2 ^ 32) }
@@ -39,10 +40,11 @@ pub fn put_whole(list: &mut [u16], at: usize, n: usize)
 fn shifted(x: i32) -> usize
     ensures { (result ≡ shifted x) × (result < 2 ^ 32) }
 {
-    (x as i64 + SIGN_SHIFT) as usize
+    (i64::from(x) + SIGN_SHIFT) as usize
 }
 
 // The signed number whose halves stand at `at` and behind it.
+#[tactic(auto, unfolding(crate::specs::Halves::signed_at))]
 pub fn signed_at(list: &[u16], at: usize) -> i64
     requires { at + 1 < length list.now }
     ensures { result ≡ signed_at list.now at }

@@ -4,19 +4,19 @@
 
 ghost use Rattle.std.specs.Prelude.{◌≡◌, ◌≤◌, length, take};
 ghost use Rattle.meaning.specs.Book.{grams_most};
-ghost use Rattle.meaning.specs.Reply.{read_reply};
+ghost use Rattle.meaning.specs.Reply.{reply_of};
 ghost use Rattle.arpa.specs.Import.{import_arpa, import_arpa_list};
 ghost use Rattle.outline.specs.Walk.{Outlines};
-ghost use Rattle.spelling.specs.Index.{Spelling};
 ghost use Rattle.longer.specs.Longer.{Opened, LongerIs};
 ghost use Rattle.importing.specs.Import.{with_model};
 
 use arpa_model::walk::Cursor;
-use arpa_model::{model, write};
-use longer::{Judged, Longer};
-use meaning::{Read, Refusal};
+use arpa_model::write;
+use longer::Longer;
+use meaning::Refusal;
 use outline::sections;
-use outline::sections::{Outline, Outlined};
+use outline::sections::Outline;
+use spelling::WordList;
 
 // Puts u, where `<unk>` sets it, and the count of the T lines into the B record.
 fn put_model(book: &mut [i32], longer: Longer)
@@ -24,7 +24,7 @@ fn put_model(book: &mut [i32], longer: Longer)
     requires triples_le_grams_most { longer.triples ≤ grams_most }
     ensures { book.new ≡ with_model longer book.old }
 {
-    let unseen = model::first_of(longer.unknown, longer.unseen, lines::number_at(book, 3));
+    let unseen = longer.unseen.unwrap_or(lines::number_at(book, 3));
     book[3] = unseen;
     book[lines::B_IN_TEXT + 1] = longer.triples as i32;
 }
@@ -33,51 +33,41 @@ fn put_model(book: &mut [i32], longer: Longer)
 fn write_longer(
     text: &[u8],
     cursor: Cursor,
-    list: &[u8],
-    index: &[u16],
-    starts: &[usize],
+    words: &WordList,
     book: &mut [i32],
     used: usize,
     longer: Longer,
-) -> Read
+) -> Result<usize, Refusal>
     requires opened { Opened text.now cursor }
-    requires spelling { Spelling list.now index.now starts.now cursor.words }
     requires used_in_bounds { used ≤ length book.old }
-    requires longer_is { LongerIs text.now list.now (take used book.old) longer }
-    ensures result_value { read_reply result ≡ import_arpa text.now list.now book.old used }
-    ensures book_after { book.new ≡ import_arpa_list text.now list.now book.old used }
+    requires longer_is { LongerIs text.now words.now.list.now (take used book.old) longer }
+    ensures result_value { reply_of result ≡ import_arpa text.now words.now.list.now book.old used }
+    ensures book_after { book.new ≡ import_arpa_list text.now words.now.list.now book.old used }
 {
     let size = longer.size;
     if book.len() - used < size {
-        return Read::Refused(Refusal::ListTooShort);
+        return Err(Refusal::ListTooShort);
     }
-    write::write_model(text, cursor, list, index, starts, &mut book[used..]);
+    write::write_model(text, cursor, words, &mut book[used..]);
     put_model(book, longer);
-    Read::Numbers(used + size)
+    Ok(used + size)
 }
 
 // All questions behind 23, and the lines.
 fn import_model(
     text: &[u8],
     cursor: Cursor,
-    list: &[u8],
-    index: &[u16],
-    starts: &[usize],
+    words: &WordList,
     book: &mut [i32],
     used: usize,
-) -> Read
+) -> Result<usize, Refusal>
     requires opened { Opened text.now cursor }
-    requires spelling { Spelling list.now index.now starts.now cursor.words }
     requires used_in_bounds { used ≤ length book.old }
-    ensures result_value { read_reply result ≡ import_arpa text.now list.now book.old used }
-    ensures book_after { book.new ≡ import_arpa_list text.now list.now book.old used }
+    ensures result_value { reply_of result ≡ import_arpa text.now words.now.list.now book.old used }
+    ensures book_after { book.new ≡ import_arpa_list text.now words.now.list.now book.old used }
 {
-    match longer::judge(text, cursor, list, index, starts, &book[..used]) {
-        Judged::Passed(longer) => write_longer(
-            text, cursor, list, index, starts, book, used, longer,
-        ),
-        Judged::Refused(refusal) => Read::Refused(refusal),
-    }
+    let longer = longer::judge(text, cursor, words, &book[..used])?;
+    write_longer(text, cursor, words, book, used, longer)
 }
 
 // The same: the word list is indexed.
@@ -87,35 +77,39 @@ fn import_outlined(
     list: &[u8],
     book: &mut [i32],
     used: usize,
-) -> Read
+) -> Result<usize, Refusal>
     requires outlines { Outlines text.now outline }
     requires used_in_bounds { used ≤ length book.old }
-    ensures result_value { read_reply result ≡ import_arpa text.now list.now book.old used }
+    ensures result_value { reply_of result ≡ import_arpa text.now list.now book.old used }
     ensures book_after { book.new ≡ import_arpa_list text.now list.now book.old used }
 {
     let mut index = [0u16; spelling::INDEX_SIZE];
     let mut starts = [0usize; spelling::STARTS_SIZE];
-    let words = spelling::index_words(list, &mut index, &mut starts);
+    let words = WordList::new(list, &mut index, &mut starts);
     let cursor = Cursor {
         top: outline.top,
-        words,
         at: outline.at,
         order: 0,
     };
-    import_model(text, cursor, list, &index, &starts, book, used)
+    import_model(text, cursor, &words, book, used)
 }
 
 // Imports an ARPA text, through a word list, to the loaded book that the first `used` numbers of the list are: its n-grams become U, D and T lines behind
 // the last line, and `<unk>` sets u; how many numbers are then in use. A refusal changes nothing.
-pub fn import_arpa(text: &[u8], list: &[u8], book: &mut [i32], used: usize) -> Read
-    ensures result_value { read_reply result ≡ import_arpa text.now list.now book.old used }
+pub fn import_arpa(
+    text: &[u8],
+    list: &[u8],
+    book: &mut [i32],
+    used: usize,
+) -> Result<usize, Refusal>
+    ensures result_value { reply_of result ≡ import_arpa text.now list.now book.old used }
     ensures book_after { book.new ≡ import_arpa_list text.now list.now book.old used }
 {
     if book.len() < used {
-        return Read::Refused(Refusal::ListTooShort);
+        return Err(Refusal::ListTooShort);
     }
     match sections::read_outline(text) {
-        Outlined::Arpa(outline) => import_outlined(text, outline, list, book, used),
-        Outlined::Broken => Read::Refused(Refusal::ArpaText),
+        Some(outline) => import_outlined(text, outline, list, book, used),
+        None => Err(Refusal::ArpaText),
     }
 }

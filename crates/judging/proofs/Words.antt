@@ -3,8 +3,8 @@ use Prim.Native.Nat.{ℕ, ◌+◌, ◌-◌, ◌≤◌, ◌<◌}
 use native.Mathlib.Omega.{arith}
 use mathlib.Core.Path.{◌≡◌, sym, ◌∙◌, ap, subst}
 use mathlib.Core.List.{List, [], ◌∷◌, ◌++◌, map, map-append, append-nil}
-use lib.IntN.{ℤ}
-use lib.ListN.{length, get_or, take, drop, set, length-append, drop_of_length-le}
+use lib.IntN.{ℤ, pos}
+use lib.ListN.{length, get_or, take, drop, set, length-append, length-map, drop_of_length-le}
 use native.Mathlib.Numerals.{add-one}
 use Rattle.laws.proofs.Fill.{Filled, fill_put, fill_count, fill_end, over_more}
 use Rattle.laws.specs.Lists.{concat}
@@ -15,26 +15,23 @@ use Rattle.meaning.specs.Reply.{written_over}
 use Rattle.meaning.specs.declared.Step.{Step}
 use Rattle.records.specs.Plain.{step_in, steps_to}
 use Rattle.records.specs.declared.Plain.{Plain}
-use Rattle.derivation.specs.Model.{WordsAt, word_in}
-use Rattle.derivation.proofs.Rows.{word_is}
+use Rattle.derivation.specs.Model.{word_of}
 
 -- ════ the words of one entry
 
-module _ {loaded : List ℤ} {from many : ℕ} {row : List ℕ} (w : WordsAt loaded from many row) (old : List ℕ) (room : many ≤ length old) where
-  -- one word more
-  pub copy_more : {out : List ℕ} {j : ℕ} → j < many → Filled old out j (drop j row) row → Filled old (set out j (word_in loaded (from + j))) (j + 1) (drop (j + 1) row) row
-  copy_more {out} {j} h f =
-      let m = w.many_are in
-      let e : word_in loaded (from + j) ≡ get_or row j 0 = word_is w j h in
-      let d : drop j row ≡ get_or row j 0 ∷ drop (j + 1) row = drop_next row j 0 (omega arith) in
-      subst (λ (v : ℕ). Filled old (set out j v) (j + 1) (drop (j + 1) row) row) (sym e) (fill_put (omega arith) (subst (λ (rest : List ℕ). Filled old out j rest row) d f))
+module _ (numbers : List ℤ) (old : List ℕ) (room : length numbers ≤ length old) where
+  long : length (map word_of numbers) ≤ length old
+  long = let l = length-map numbers word_of in omega arith
 
-  pub copy_ends : {out : List ℕ} {j : ℕ} → many ≤ j → Filled old out j (drop j row) row → out ≡ written_over row old
-  copy_ends {out} {j} h f =
-      let m = w.many_are in
-      let e : drop j row ≡ [] = drop_of_length-le row {i = j} (omega arith) in
-      let g : Filled old out j [] row = subst (λ (rest : List ℕ). Filled old out j rest row) e f in
-      fill_end g ∙ ap (λ (k : ℕ). row ++ drop k old) (fill_count g)
+  -- one number more as a word
+  pub copy_more : {out : List ℕ} (j : ℕ) → j < length numbers → Filled old out j (map word_of (drop j numbers)) (map word_of numbers)
+      → Filled old (set out j (word_of (get_or numbers j (pos 0)))) (j + 1) (map word_of (drop (j + 1) numbers)) (map word_of numbers)
+  copy_more {out} j h f = fill_put long (subst (λ (rest : List ℤ). Filled old out j (map word_of rest) (map word_of numbers)) (drop_next numbers j (pos 0) h) f)
+
+  pub copy_ends : {out : List ℕ} (j : ℕ) → length numbers ≤ j → Filled old out j (map word_of (drop j numbers)) (map word_of numbers) → out ≡ written_over (map word_of numbers) old
+  copy_ends {out} j h f =
+      let g = subst (λ (rest : List ℤ). Filled old out j (map word_of rest) (map word_of numbers)) (drop_of_length-le numbers {i = j} h) f in
+      fill_end g ∙ ap (λ (k : ℕ). map word_of numbers ++ drop k old) (fill_count g)
 
 -- ════ the words of one step after another
 

@@ -26,10 +26,8 @@ fn copy_words(book: &[i32], p: Phrase, words: &mut [u16])
     requires count_in_bounds { p.count ≤ length words.old }
     ensures { (e : Entry) → PhraseOf book.now e p → words.new ≡ written_over e.target words.old }
 {
-    let mut j = 0;
-    while j < p.count {
-        words[j] = derivation::model::word_at(book, p.target + j);
-        j += 1;
+    for (j, x) in book[p.target..p.target + p.count].iter().enumerate() {
+        words[j] = derivation::model::word_of(*x);
     }
 }
 
@@ -49,13 +47,11 @@ pub fn write_words(
     ensures words_after { words.new ≡ written_over (target_words (book_of book.now) (steps_of plain)) words.old }
 {
     let mut count = 0;
-    let mut k = 0;
-    while k < plain.count {
+    for k in 0..plain.count {
         let step = records::step_in(plain, k);
         let p = derivation::places::phrase_at(book, index, phrases, step.entry as usize);
         copy_words(book, p, &mut words[count..]);
         count += p.count;
-        k += 1;
     }
     count
 }
@@ -63,26 +59,17 @@ pub fn write_words(
 // ---- who supplied their scores
 
 // One word more that `by` supplied.
-fn with_supplier(s: Supplied, by: Supplier) -> Supplied
+fn with_supplier(mut s: Supplied, by: Supplier) -> Supplied
     requires { in_all s < 2 ^ 63 }
     ensures { result ≡ with_supplier s by }
 {
-    let mut triples = s.triples;
-    let mut pairs = s.pairs;
-    let mut words = s.words;
-    let mut unseen = s.unseen;
     match by {
-        Supplier::Triple => triples += 1,
-        Supplier::Pair => pairs += 1,
-        Supplier::Word => words += 1,
-        Supplier::Unseen => unseen += 1,
+        Supplier::Triple => s.triples += 1,
+        Supplier::Pair => s.pairs += 1,
+        Supplier::Word => s.words += 1,
+        Supplier::Unseen => s.unseen += 1,
     }
-    Supplied {
-        triples,
-        pairs,
-        words,
-        unseen,
-    }
+    s
 }
 
 // The four counts of a row of target words, before which two start symbols stand.
@@ -96,15 +83,13 @@ pub fn judge_words(index: &[u16], t: Setup, words: &[u16]) -> Supplied
         words: 0,
         unseen: 0,
     };
-    let mut v = 0usize;
-    let mut w = 0usize;
-    let mut i = 0;
-    while i < words.len() {
-        let y = words[i] as usize;
+    let mut v = 0;
+    let mut w = 0;
+    for word in words {
+        let y = *word as usize;
         s = with_supplier(s, language::supplier(index, t.model, v, w, y));
         v = w;
         w = y;
-        i += 1;
     }
     s
 }

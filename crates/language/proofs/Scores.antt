@@ -6,6 +6,8 @@ use mathlib.Core.Bool.{true, false}
 use mathlib.Core.List.{List, [], ◌∷◌, drop_last, Memᴰ}
 use lib.Dec.{eqb}
 use lib.IntN.{ℤ, pos, ◌+ℤ◌}
+use Rattle.std.proofs.Common.{Option, Some, is_some, option_map, unwrap_or}
+use Rattle.std.proofs.lemmas.Option.{none-some, same_Some}
 use lib.ListN.{length, get_or, drop, length-drop}
 use Rattle.laws.specs.Index.{latest}
 use Rattle.laws.specs.Lists.{eq_list}
@@ -20,24 +22,22 @@ use Rattle.meaning.specs.Book.{Gram}
 use Rattle.meaning.specs.Derivation.{listed, score_or, weight, word_score, pair_score, is_listed}
 use Rattle.meaning.proofs.Judging.{zero_one, listed_else, else_unlisted}
 use Rattle.ngrams.specs.declared.Key.{Key}
-use Rattle.ngrams.specs.Grams.{key_at, score_at, words_of, key_of, gram_at, grams_in, same_key, holds, Listing}
+use Rattle.ngrams.specs.Parts.{record_named}
+use Rattle.ngrams.specs.Grams.{key_at, words_of, key_of, gram_at, grams_in, same_key, holds, latest_with, Listing}
 use Rattle.ngrams.proofs.Keys.{same_is, is_same, same_words, words_back, words_few}
 use Rattle.ngrams.proofs.Differ.{firsts_length, firsts_at, is_different}
-use Rattle.language.specs.declared.Score.TheVariants.{Is, Unlisted}
-use Rattle.language.specs.Language.{found, latest_score, latest_weight, unlisted_score, Shortens}
+use Rattle.language.specs.Language.{latest_score, latest_weight, unlisted_score, Shortens}
 
 -- ---- the result of a search
 
-module _ (index : List ℕ) (n : ℕ) (key : Key) (at : ℕ) (e : at ≡ latest (holds index key) n) where
-  pub found_in : at ≤ n
-  found_in = omega (arith, latest_le (holds index key) n)
-
-  module _ {A : Type 0} (none : A) (of : ℕ → A) where
-    pub found_none : at ≡ 0 → none ≡ found none of (latest (holds index key) n)
-    found_none z = rw (← e, z)
-
-    pub found_some : (at ≡ 0 → ⊥) → of (at - 1) ≡ found none of (latest (holds index key) n)
-    found_some d = let q : at ≡ suc (at - 1) = omega (arith, d) in ap (found none of) (sym q ∙ e)
+-- it is one of the first n records
+pub found_lt : (index : List ℕ) (n : ℕ) (key : Key) {k : ℕ} → Some k ≡ latest_with index key n → k < n
+unfolding latest_with
+found_lt index n key {k} e = by (latest (holds index key) n) e (latest_le (holds index key) n)
+  where
+    by : (at : ℕ) → Some k ≡ record_named at → at ≤ n → k < n
+    by zero q l = absurd (none-some k (sym q))
+    by (suc j) q l = let h = same_Some k j q in omega arith
 
 -- ---- what a list of n-grams gives
 
@@ -89,10 +89,11 @@ module _ {index : List ℕ} {n shorter : ℕ} (x : Listing index n shorter) wher
         (λ j l. gram_holds words few j (omega arith) ∙ first j l)
         ∙ ap number (gram_at_lem k lt)
 
-    pub found_listed : found other (λ k. number (gram_at index k)) (sought n) ≡ listed number other words (grams_in index n)
+    found_listed : unwrap_or (option_map (λ k. number (gram_at index k)) (latest_with index (key_of words) n)) other ≡ listed number other words (grams_in index n)
+    unfolding latest_with
     found_listed = by (sought n) refl
       where
-        by : (at : ℕ) → sought n ≡ at → found other (λ k. number (gram_at index k)) at ≡ listed number other words (grams_in index n)
+        by : (at : ℕ) → sought n ≡ at → unwrap_or (option_map (λ k. number (gram_at index k)) (record_named at)) other ≡ listed number other words (grams_in index n)
         by zero e = sym (none_listed e)
         by (suc k) e = sym (some_listed k e)
 
@@ -101,35 +102,17 @@ module _ {index : List ℕ} {n shorter : ℕ} (x : Listing index n shorter) wher
   unfolding latest_weight gram_at
   weight_listed words few = found_listed (λ g. g.k) (pos 0) words few
 
-  -- the score that is found, and where none is
-  pub score_listed : (words : List ℕ) → length words ≤ 3 → (other s : ℤ) → Is s ≡ latest_score index n (key_of words) → s ≡ score_or (grams_in index n) other words
+  -- the score that is found, or the other where none is
+  pub score_listed : (words : List ℕ) → length words ≤ 3 → (other : ℤ) (score : Option ℤ) → score ≡ latest_score index n (key_of words) → unwrap_or score other ≡ score_or (grams_in index n) other words
   unfolding latest_score gram_at
-  score_listed words few other s e = by (latest (holds index (key_of words)) n) e ∙ found_listed (λ g. g.s) other words few
-    where
-      by : (at : ℕ) → Is s ≡ found Unlisted (λ k. Is (score_at index k)) at → s ≡ found other (score_at index) at
-      by zero e = absurd (no e)
-        where
-          no : Is s ≡ Unlisted → ⊥
-          no q = let z : ◌≡◌ {A = ℕ} 0 1 = cc in omega arith
-      by (suc k) e = cc
-
-  pub other_listed : (words : List ℕ) → length words ≤ 3 → (other : ℤ) → Unlisted ≡ latest_score index n (key_of words) → other ≡ score_or (grams_in index n) other words
-  unfolding latest_score gram_at
-  other_listed words few other e = by (latest (holds index (key_of words)) n) e ∙ found_listed (λ g. g.s) other words few
-    where
-      by : (at : ℕ) → Unlisted ≡ found Unlisted (λ k. Is (score_at index k)) at → other ≡ found other (score_at index) at
-      by zero e = refl
-      by (suc k) e = absurd (no e)
-        where
-          no : Unlisted ≡ Is (score_at index k) → ⊥
-          no q = let z : ◌≡◌ {A = ℕ} 0 1 = cc in omega arith
+  score_listed words few other score e = ap (λ (o : Option ℤ). unwrap_or o other) e ∙ found_listed (λ g. g.s) other words few
 
   -- the words are listed exactly where a search finds them
   module _ (words : List ℕ) (few : length words ≤ 3) where
-    pub missed : latest (holds index (key_of words)) n ≡ 0 → is_listed (grams_in index n) words ≡ false
+    missed : latest (holds index (key_of words)) n ≡ 0 → is_listed (grams_in index n) words ≡ false
     missed e = else_unlisted (λ g. g.s) words (grams_in index n) (λ other. none_listed (λ g. g.s) other words few e)
 
-    pub met : (latest (holds index (key_of words)) n ≡ 0 → ⊥) → is_listed (grams_in index n) words ≡ true
+    met : (latest (holds index (key_of words)) n ≡ 0 → ⊥) → is_listed (grams_in index n) words ≡ true
     met d =
         by_test (is_listed (grams_in index n) words) (λ t. t)
         (λ f. absurd (zero_one (sym (at (pos 0) f) ∙ at (pos 1) f)))
@@ -139,6 +122,14 @@ module _ {index : List ℕ} {n shorter : ℕ} (x : Listing index n shorter) wher
 
         at : (other : ℤ) → is_listed (grams_in index n) words ≡ false → (gram_at index k).s ≡ other
         at other f = sym (some_listed (λ g. g.s) other words few k (omega (arith, d))) ∙ listed_else (λ g. g.s) words other (grams_in index n) f
+
+    pub some_is : is_some (latest_with index (key_of words) n) ≡ is_listed (grams_in index n) words
+    unfolding latest_with
+    some_is = by (latest (holds index (key_of words)) n) refl
+      where
+        by : (at : ℕ) → latest (holds index (key_of words)) n ≡ at → is_some (record_named at) ≡ is_listed (grams_in index n) words
+        by zero e = sym (missed e)
+        by (suc k) e = sym (met (λ z. omega (arith, e, z)))
 
   -- ---- only triples are listed
 
@@ -189,39 +180,26 @@ module _ {key : Key} (x : Shortens key) where
   pub words_some : 2 ≤ length (words_of key)
   words_some = let s = x.some in omega (arith, as_many x.padded)
 
-  rest_key : (ws : List ℕ) → 2 ≤ length ws → length ws ≤ 3 → ◌≡◌ {A = Key} (record { first = (key_of ws).second; second = (key_of ws).third; third = 0; order = (key_of ws).order - 1 }) (key_of (drop 1 ws))
-  unfolding key_of
-  rest_key [] a b = absurd (omega arith)
-  rest_key (y ∷ []) a b = absurd (omega arith)
-  rest_key (w ∷ y ∷ []) a b = refl
-  rest_key (v ∷ w ∷ y ∷ []) a b = refl
-  rest_key (p ∷ q ∷ r ∷ s ∷ ws) a b = absurd (omega arith)
+  three : (key.order ≡ 2 → ⊥) → key.order ≡ 3
+  three n = let s = x.some in omega (arith, n, as_many x.padded, words_few key)
 
-  history_two : (ws : List ℕ) → length ws ≡ 2 → ◌≡◌ {A = Key} (record { first = (key_of ws).first; second = 0; third = 0; order = 1 }) (key_of (drop_last ws))
-  unfolding key_of
-  history_two [] a = absurd (omega arith)
-  history_two (y ∷ []) a = absurd (omega arith)
-  history_two (w ∷ y ∷ []) a = refl
-  history_two (p ∷ q ∷ r ∷ ws) a = absurd (omega arith)
+  -- those of a pair
+  pub pair_history : key.order ≡ 2 → key_of (key.first ∷ []) ≡ key_of (drop_last (words_of key))
+  unfolding words_of
+  pair_history e = rw e
 
-  history_three : (ws : List ℕ) → length ws ≡ 3 → ◌≡◌ {A = Key} (record { first = (key_of ws).first; second = (key_of ws).second; third = 0; order = 2 }) (key_of (drop_last ws))
-  unfolding key_of
-  history_three [] a = absurd (omega arith)
-  history_three (y ∷ []) a = absurd (omega arith)
-  history_three (w ∷ y ∷ []) a = absurd (omega arith)
-  history_three (v ∷ w ∷ y ∷ []) a = refl
-  history_three (p ∷ q ∷ r ∷ s ∷ ws) a = absurd (omega arith)
+  pub pair_rest : key.order ≡ 2 → key_of (key.second ∷ []) ≡ key_of (drop 1 (words_of key))
+  unfolding words_of
+  pair_rest e = rw e
 
-  pub history_of_pair : key.order ≡ 2 → ◌≡◌ {A = Key} (record { first = key.first; second = 0; third = 0; order = 1 }) (key_of (drop_last (words_of key)))
-  history_of_pair e = ap (λ (k : Key). record { first = k.first; second = 0; third = 0; order = 1 }) x.padded ∙ history_two (words_of key) (omega (arith, as_many x.padded))
+  -- and of a triple
+  pub triple_history : (key.order ≡ 2 → ⊥) → key_of (key.first ∷ key.second ∷ []) ≡ key_of (drop_last (words_of key))
+  unfolding words_of
+  triple_history n = rw (three n)
 
-  pub history_of_triple : (key.order ≡ 2 → ⊥) → ◌≡◌ {A = Key} (record { first = key.first; second = key.second; third = 0; order = 2 }) (key_of (drop_last (words_of key)))
-  history_of_triple n =
-      ap (λ (k : Key). record { first = k.first; second = k.second; third = 0; order = 2 }) x.padded
-      ∙ history_three (words_of key) (let s = x.some in omega (arith, n, as_many x.padded, words_few key))
-
-  pub rest_is : ◌≡◌ {A = Key} (record { first = key.second; second = key.third; third = 0; order = key.order - 1 }) (key_of (drop 1 (words_of key)))
-  rest_is = ap (λ (k : Key). record { first = k.second; second = k.third; third = 0; order = k.order - 1 }) x.padded ∙ rest_key (words_of key) words_some (words_few key)
+  pub triple_rest : (key.order ≡ 2 → ⊥) → key_of (key.second ∷ key.third ∷ []) ≡ key_of (drop 1 (words_of key))
+  unfolding words_of
+  triple_rest n = rw (three n)
 
 -- ---- one word less
 

@@ -1,28 +1,20 @@
 -- The language model as code has it: records in a list, and three numbers.
-use Rattle.std.specs.Prelude.{ℕ, zero, suc, ◌≤◌, ◌≡◌, ℤ, pos, ◌+ℤ◌}
+use Rattle.std.specs.Prelude.{ℕ, ◌≤◌, ◌≡◌, Option, option_map, unwrap_or, ℤ, pos, ◌+ℤ◌}
 use mathlib.Core.List.{List, [], ◌∷◌, Memᴰ}
-use Rattle.laws.specs.Index.{latest}
 use Rattle.laws.specs.Integers.{Within}
 use Rattle.meaning.specs.Bounds.{score_most}
 use Rattle.meaning.specs.Book.{Gram}
 use Rattle.meaning.specs.Derivation.{weight, word_score, pair_score}
 use Rattle.ngrams.specs.declared.Key.{Key}
-use Rattle.ngrams.specs.Grams.{score_at, weight_at, words_of, key_of, holds, grams_in, Listing}
+use Rattle.ngrams.specs.Grams.{score_at, weight_at, words_of, key_of, latest_with, grams_in, Listing}
 use Rattle.language.specs.declared.LanguageModel.{LanguageModel}
-use Rattle.language.specs.declared.Score.{Score}
-use Rattle.language.specs.declared.Score.TheVariants.{Is, Unlisted}
 
--- what a search's result says: of 1 + a record's number something of that record, of 0 `none`
-abbrev pub found : {A : Type 0} → A → (ℕ → A) → ℕ → A
-found none of zero = none
-found none of (suc k) = of k
-
--- the score and the weight of the latest of the first n records that has the words
-unfoldable pub latest_score : List ℕ → ℕ → Key → Score
-latest_score index n key = found Unlisted (λ k. Is (score_at index k)) (latest (holds index key) n)
+-- the score of the latest of the first n records that has the words, if one has, and its weight, or 0
+unfoldable pub latest_score : List ℕ → ℕ → Key → Option ℤ
+latest_score index n key = option_map (score_at index) (latest_with index key n)
 
 unfoldable pub latest_weight : List ℕ → ℕ → Key → ℤ
-latest_weight index n key = found (pos 0) (weight_at index) (latest (holds index key) n)
+latest_weight index n key = unwrap_or (option_map (weight_at index) (latest_with index key n)) (pos 0)
 
 -- an n-gram that is not listed scores the weight of its words without the last, and the score of its words without the first; a word scores u
 unfoldable pub unlisted_score : ℤ → List Gram → List ℕ → ℤ

@@ -19,25 +19,7 @@ pub struct LanguageModel {
     pub unseen: i64,
 }
 
-// What a lookup answers: the score of the n-gram, or that it is not listed.
-#[derive(Clone, Copy)]
-enum Score {
-    Is(i64),
-    Unlisted,
-}
-
 // ---- the keys
-
-fn triple_key(v: usize, w: usize, y: usize) -> Key
-    ensures { result ≡ key_of (v ∷ w ∷ y ∷ []) }
-{
-    Key {
-        first: v,
-        second: w,
-        third: y,
-        order: 3,
-    }
-}
 
 // The words without the last: the history of a triple or of a pair.
 fn history_of(key: Key) -> Key
@@ -45,18 +27,9 @@ fn history_of(key: Key) -> Key
     ensures { result ≡ key_of (drop_last (words_of key)) }
 {
     if key.order == 2 {
-        return Key {
-            first: key.first,
-            second: 0,
-            third: 0,
-            order: 1,
-        };
-    }
-    Key {
-        first: key.first,
-        second: key.second,
-        third: 0,
-        order: 2,
+        Key::word(key.first)
+    } else {
+        Key::pair(key.first, key.second)
     }
 }
 
@@ -65,26 +38,22 @@ fn rest_of(key: Key) -> Key
     requires { Shortens key }
     ensures { result ≡ key_of (drop 1 (words_of key)) }
 {
-    Key {
-        first: key.second,
-        second: key.third,
-        third: 0,
-        order: key.order - 1,
+    if key.order == 2 {
+        Key::word(key.second)
+    } else {
+        Key::pair(key.second, key.third)
     }
 }
 
 // ---- one n-gram
 
-// The score of the latest of the first `count` records that has the words of the key.
-fn lookup(index: &[u16], count: usize, key: Key) -> Score
+// The score of the latest of the first `count` records that has the words of the key, or none where they are not listed.
+fn lookup(index: &[u16], count: usize, key: Key) -> Option<i64>
     requires { Indexed index.now count }
     ensures { result ≡ latest_score index.now count key }
 {
-    let at = ngrams::find(index, count, key);
-    if at == 0 {
-        return Score::Unlisted;
-    }
-    Score::Is(ngrams::score_at(index, at - 1))
+    let k = ngrams::find(index, count, key)?;
+    Some(ngrams::score_at(index, k))
 }
 
 // Its back-off weight, or 0 where none has them.
@@ -92,11 +61,10 @@ fn weight_of(index: &[u16], count: usize, key: Key) -> i64
     requires { Indexed index.now count }
     ensures { result ≡ latest_weight index.now count key }
 {
-    let at = ngrams::find(index, count, key);
-    if at == 0 {
-        return 0;
+    match ngrams::find(index, count, key) {
+        Some(k) => ngrams::weight_at(index, k),
+        None => 0,
     }
-    ngrams::weight_at(index, at - 1)
 }
 
 // ---- the history grows shorter. Document 01's form: a lookup is taken apart by `let .. else`, and the missing case goes on
@@ -113,7 +81,7 @@ fn back_off(index: &[u16], m: LanguageModel, key: Key) -> i64
     }
     let rest = rest_of(key);
     let weight = weight_of(index, m.count, history_of(key));
-    let Score::Is(s) = lookup(index, m.count, rest) else {
+    let Some(s) = lookup(index, m.count, rest) else {
         return weight + back_off(index, m, rest);
     };
     weight + s
@@ -132,7 +100,7 @@ fn unlisted(index: &[u16], m: LanguageModel, v: usize, w: usize, y: usize) -> i6
         shorter: m.shorter,
         unseen: m.unseen,
     };
-    back_off(index, model, triple_key(v, w, y))
+    back_off(index, model, Key::triple(v, w, y))
 }
 
 // The score of the triple v, w, y.
@@ -140,7 +108,7 @@ pub fn triple_score(index: &[u16], m: LanguageModel, v: usize, w: usize, y: usiz
     requires { IsModel index.now m }
     ensures { result ≡ backed_off m.unseen (grams_in index.now m.count) v w y }
 {
-    let Score::Is(s) = lookup(index, m.count, triple_key(v, w, y)) else {
+    let Some(s) = lookup(index, m.count, Key::triple(v, w, y)) else {
         return unlisted(index, m, v, w, y);
     };
     s
@@ -154,10 +122,7 @@ fn is_listed(index: &[u16], m: LanguageModel, key: Key) -> bool
     requires key_value { key ≡ key_of (words_of key) }
     ensures { result ≡ is_listed (grams_in index.now m.count) (words_of key) }
 {
-    if ngrams::find(index, m.count, key) == 0 {
-        return false;
-    }
-    true
+    ngrams::find(index, m.count, key).is_some()
 }
 
 // Which of triple, pair, word or u supplies the score of the triple v, w, y: the first of them that is listed, as `triple_score` looks for them. The weights that it adds on its way supply nothing.
@@ -165,7 +130,7 @@ pub fn supplier(index: &[u16], m: LanguageModel, v: usize, w: usize, y: usize) -
     requires { IsModel index.now m }
     ensures { result ≡ supplier (grams_in index.now m.count) v w y }
 {
-    let triple = triple_key(v, w, y);
+    let triple = Key::triple(v, w, y);
     if is_listed(index, m, triple) {
         return Supplier::Triple;
     }

@@ -1,42 +1,24 @@
--- What the definitions of a line's size and ranges are at each outcome of the tests that the code makes, one after the other.
-use Prim.Native.Nat.{ℕ, ◌+◌, ◌-◌, ◌≤◌, ◌<◌}
+-- What the definitions of a line's kind, size, ranges and words are in the terms of the code.
+use Rattle.std.specs.List.{list_all}
+use Prim.Native.Nat.{ℕ, suc, ◌-◌, ◌≤◌}
 use native.Mathlib.Omega.{arith}
-use mathlib.Core.Path.{◌≡◌, refl, sym, ◌∙◌}
-use mathlib.Core.Bool.{true, false, cond, ◌&&◌}
+use mathlib.Core.Path.{◌≡◌, refl, sym, ap, ◌∙◌}
+use mathlib.Core.Bool.{Bool, true, false, cond, ◌&&◌}
 use mathlib.Core.List.{List, [], ◌∷◌, drop_last}
-use borrow.Author.Tests.{leb-true, leb-false, le-leb, lt-leb, ne_eqb}
+use borrow.Author.Tests.{leb-true, leb-false, ne_eqb}
 use lib.Dec.{eqb, leb}
-use lib.IntN.{ℤ, pos, negsuc, nat_abs}
-use lib.Signed.{le_z, lt_z}
-use lib.ListN.{length, drop}
+use lib.IntN.{ℤ, pos, negsuc}
+use lib.ListN.{length, take, drop, length-drop}
 use Rattle.laws.specs.Integers.{eqℤ, nat_of}
 use Rattle.laws.specs.Lists.{all}
-use Rattle.laws.proofs.Tests.{both, by_test}
-use Rattle.laws.proofs.Linear.{signed}
-use Rattle.laws.proofs.Order.{yes_≡}
-use Rattle.meaning.specs.Questions.{withinℤ}
-use Rattle.meaning.specs.Book.{kinds, is_kind, Form, size_b, number_at, natural_at, is_b, is_p, is_t, is_u, is_d, is_phrase_length, phrase_size, size_of, is_whole, is_score, is_phrase_word, is_history_word, is_last_word, is_lone_word, is_weight, ranges_b, ranges_p, ranges_t, ranges_u, ranges_d, is_in_range, order_of}
+use Rattle.laws.proofs.Tests.{by_test}
+use Rattle.meaning.specs.Book.{kinds, is_kind, Form, number_at, natural_at, is_b, size_b, size_of, is_whole, Kind, kind_b, kind_p, kind_t, kind_u, kind_d, by_kind, is_in_range, order_of}
 use Rattle.lines.specs.Kinds.{kind_of}
 
 -- ---- the kind
 
-pub kind_below : (z : ℤ) (k : ℕ) → lt_z z (pos 0) ≡ true → false ≡ eqℤ z (pos k)
-kind_below z k h = let t : eqℤ z (pos k) ≡ false = omega (arith, signed) in sym t
-
-pub kind_from : (z : ℤ) (k : ℕ) → lt_z z (pos 0) ≡ false → eqb (nat_abs z) k ≡ eqℤ z (pos k)
-kind_from (pos n) k h = refl
-kind_from (negsuc n) k h = absurd (omega (arith, signed))
-
 -- its row: the number, where the table has a row of that number
 module _ (line : List ℤ) where
-  pub row_of : (k : ℕ) → k ≡ natural_at line 0 → k ≤ length kinds → k ≡ kind_of line
-  unfolding kind_of
-  row_of k e h = let t : leb (natural_at line 0) (length kinds) ≡ true = le-leb (natural_at line 0) (length kinds) (omega arith) in rw (t, e)
-
-  pub row_none : (k : ℕ) → k ≡ natural_at line 0 → length kinds < k → 0 ≡ kind_of line
-  unfolding kind_of
-  row_none k e h = let f : leb (natural_at line 0) (length kinds) ≡ false = lt-leb (natural_at line 0) (length kinds) (omega arith) in rw f
-
   pub row_known : kind_of line ≤ length kinds
   unfolding kind_of
   row_known = by_test (leb (natural_at line 0) (length kinds)) (λ t. rw t (leb-true (natural_at line 0) (length kinds) t)) (λ f. rw f (omega arith))
@@ -50,86 +32,39 @@ module _ (line : List ℤ) where
       by (pos n) = by_test (leb n (length kinds)) (λ t. rw t) (λ f. let far = leb-false n (length kinds) f in rw f (ne_eqb n k (omega arith) ∙ sym (ne_eqb 0 k (omega arith))))
       by (negsuc n) = sym (ne_eqb 0 k (omega arith))
 
-  -- the words of its n-gram are told by its kind
-  pub order_t : is_t line ≡ true → 3 ≡ order_of line
-  unfolding order_of
-  order_t h = let k : number_at line 0 ≡ pos 3 = yes_≡ (number_at line 0) (pos 3) h in rw k
+-- ---- what the table says of a line, by its kind
 
-  pub order_d : is_d line ≡ true → 2 ≡ order_of line
-  unfolding order_of
-  order_d h = let k : number_at line 0 ≡ pos 5 = yes_≡ (number_at line 0) (pos 5) h in rw k
+-- what the row k says; `none` where there is no row k
+abbrev row_says : {A : Type 0} → A → (Kind → A) → ℕ → A
+row_says none says k =
+    cond (eqb k 1) (says kind_b) (cond (eqb k 2) (says kind_p) (cond (eqb k 3) (says kind_t) (cond (eqb k 4) (says kind_u) (cond (eqb k 5) (says kind_d) none))))
 
-  pub order_u : is_u line ≡ true → 1 ≡ order_of line
-  unfolding order_of
-  order_u h = let k : number_at line 0 ≡ pos 4 = yes_≡ (number_at line 0) (pos 4) h in rw k
+by_row : {A : Type 0} (none : A) (says : Kind → A) (line : List ℤ) → by_kind none says line ≡ row_says none says (kind_of line)
+by_row none says line =
+    rw (kind_row line 1 (omega arith) (omega arith), kind_row line 2 (omega arith) (omega arith), kind_row line 3 (omega arith) (omega arith), kind_row line 4 (omega arith) (omega arith), kind_row line 5 (omega arith) (omega arith))
 
-  pub order_none : is_t line ≡ false → is_d line ≡ false → is_u line ≡ false → 0 ≡ order_of line
-  unfolding order_of
-  order_none t d u = by_test (is_b line) (λ b. rw b) (λ b. by_test (is_p line) (λ p. rw (b, p)) (λ p. rw (b, p, t, u, d)))
+pub order_row : (line : List ℤ) → order_of line ≡ row_says 0 (λ row. row.order) (kind_of line)
+unfolding order_of
+order_row line = by_row 0 (λ row. row.order) line
+
+pub size_row : (form : Form) (line : List ℤ) → size_of form line ≡ row_says 0 (λ row. row.size form line) (kind_of line)
+unfolding size_of
+size_row form line = by_row 0 (λ row. row.size form line) line
+
+-- a B line takes as many numbers as its form says
+pub size_b_lem : (line : List ℤ) (form : Form) → is_b line ≡ true → size_b form ≡ size_of form line
+unfolding size_of
+size_b_lem line form h = rw h
+
+pub range_row : (line : List ℤ) → is_in_range line ≡ row_says false (λ row. row.ranges line) (kind_of line)
+unfolding is_in_range
+range_row line = by_row false (λ row. row.ranges line) line
+
+pub range_none : (line : List ℤ) → (kind_of line ≡ 1 → ⊥) → (kind_of line ≡ 2 → ⊥) → (kind_of line ≡ 3 → ⊥) → (kind_of line ≡ 4 → ⊥) → (kind_of line ≡ 5 → ⊥) → false ≡ is_in_range line
+range_none line a b c d e =
+    sym (range_row line ∙ rw (ne_eqb (kind_of line) 1 a, ne_eqb (kind_of line) 2 b, ne_eqb (kind_of line) 3 c, ne_eqb (kind_of line) 4 d, ne_eqb (kind_of line) 5 e))
 
 -- ---- the size
-
-pub length_to : (z : ℤ) → is_phrase_length z ≡ true → nat_of z ≤ 8
-length_to (pos n) h = let b = both (le_z (pos 1) (pos n)) (le_z (pos n) (pos 8)) h in let u = b.1 in omega (arith, signed)
-length_to (negsuc n) h = omega arith
-
-module _ (line : List ℤ) where
-  pub phrase_first : is_phrase_length (number_at line 1) ≡ false → 0 ≡ phrase_size line
-  phrase_first h = rw h
-
-  pub phrase_second : is_phrase_length (number_at line 1) ≡ true → is_phrase_length (number_at line 2) ≡ false → 0 ≡ phrase_size line
-  phrase_second h k = rw (h, k)
-
-  pub phrase_both : is_phrase_length (number_at line 1) ≡ true → is_phrase_length (number_at line 2) ≡ true → natural_at line 1 + natural_at line 2 + 4 ≡ phrase_size line
-  phrase_both h k = rw (h, k)
-
-  pub size_b_lem : (form : Form) → is_b line ≡ true → size_b form ≡ size_of form line
-  unfolding size_of
-  size_b_lem form h = rw h
-
-  pub size_p : (form : Form) → is_b line ≡ false → is_p line ≡ true → phrase_size line ≡ size_of form line
-  unfolding size_of
-  size_p form h k = rw (h, k)
-
-  pub size_t : (form : Form) → is_b line ≡ false → is_p line ≡ false → is_t line ≡ true → 5 ≡ size_of form line
-  unfolding size_of
-  size_t form h k l = rw (h, k, l)
-
-  pub size_u : (form : Form) → is_b line ≡ false → is_p line ≡ false → is_t line ≡ false → is_u line ≡ true → 4 ≡ size_of form line
-  unfolding size_of
-  size_u form h k l m = rw (h, k, l, m)
-
-  pub size_d : (form : Form) → is_b line ≡ false → is_p line ≡ false → is_t line ≡ false → is_u line ≡ false → is_d line ≡ true → 5 ≡ size_of form line
-  unfolding size_of
-  size_d form h k l m n = rw (h, k, l, m, n)
-
-  pub size_none : (form : Form) → is_b line ≡ false → is_p line ≡ false → is_t line ≡ false → is_u line ≡ false → is_d line ≡ false → 0 ≡ size_of form line
-  unfolding size_of
-  size_none form h k l m n = rw (h, k, l, m, n)
-
-  pub range_b : is_b line ≡ true → ranges_b line ≡ is_in_range line
-  unfolding is_in_range
-  range_b h = rw h
-
-  pub range_p : is_b line ≡ false → is_p line ≡ true → ranges_p line ≡ is_in_range line
-  unfolding is_in_range
-  range_p h k = rw (h, k)
-
-  pub range_t : is_b line ≡ false → is_p line ≡ false → is_t line ≡ true → ranges_t line ≡ is_in_range line
-  unfolding is_in_range
-  range_t h k l = rw (h, k, l)
-
-  pub range_u : is_b line ≡ false → is_p line ≡ false → is_t line ≡ false → is_u line ≡ true → ranges_u line ≡ is_in_range line
-  unfolding is_in_range
-  range_u h k l m = rw (h, k, l, m)
-
-  pub range_d : is_b line ≡ false → is_p line ≡ false → is_t line ≡ false → is_u line ≡ false → is_d line ≡ true → ranges_d line ≡ is_in_range line
-  unfolding is_in_range
-  range_d h k l m n = rw (h, k, l, m, n)
-
-  pub range_none : is_b line ≡ false → is_p line ≡ false → is_t line ≡ false → is_u line ≡ false → is_d line ≡ false → false ≡ is_in_range line
-  unfolding is_in_range
-  range_none h k l m n = rw (h, k, l, m, n)
 
 pub whole_empty : (form : Form) (line : List ℤ) → length line ≡ 0 → false ≡ is_whole form line
 unfolding is_whole
@@ -141,54 +76,17 @@ unfolding is_whole
 whole_some form [] n h e = absurd (h refl)
 whole_some form (z ∷ line) n h e = rw e
 
--- ---- the ranges, their tests asked one after the other
+-- ---- the words of a phrase
 
-module _ (line : List ℤ) where
-  pub b_limit : withinℤ (pos 0) (pos 32) (number_at line 1) ≡ false → false ≡ ranges_b line
-  b_limit h = rw h
+drop_last_take : (xs : List ℤ) → drop_last xs ≡ take (length xs - 1) xs
+drop_last_take [] = refl
+drop_last_take (x ∷ []) = refl
+drop_last_take (x ∷ y ∷ xs) = let e : length (x ∷ y ∷ xs) - 1 ≡ suc (length (y ∷ xs) - 1) = omega arith in rw e (ap (λ (l : List ℤ). x ∷ l) (drop_last_take (y ∷ xs)))
 
-  pub b_penalty : withinℤ (pos 0) (pos 32) (number_at line 1) ≡ true → withinℤ (negsuc 9_999) (pos 10_000) (number_at line 2) ≡ false → false ≡ ranges_b line
-  b_penalty h k = rw (h, k)
+pub all_is : {A : Type 0} (test : A → Bool) (xs : List A) → list_all test xs ≡ all test xs
+all_is test [] = refl
+all_is test (x ∷ xs) = ap (λ (b : Bool). test x && b) (all_is test xs)
 
-  pub b_score : withinℤ (pos 0) (pos 32) (number_at line 1) ≡ true → withinℤ (negsuc 9_999) (pos 10_000) (number_at line 2) ≡ true → is_score (number_at line 3) ≡ ranges_b line
-  b_score h k = rw (h, k)
-
-  pub p_words : all is_phrase_word (drop_last (drop 3 line)) ≡ false → false ≡ ranges_p line
-  p_words h = rw h
-
-  pub p_score : all is_phrase_word (drop_last (drop 3 line)) ≡ true → is_score (number_at line (length line - 1)) ≡ ranges_p line
-  p_score h = rw h
-
-  pub t_first : is_history_word (number_at line 1) ≡ false → false ≡ ranges_t line
-  t_first h = rw h
-
-  pub t_second : is_history_word (number_at line 1) ≡ true → is_history_word (number_at line 2) ≡ false → false ≡ ranges_t line
-  t_second h k = rw (h, k)
-
-  pub t_word : is_history_word (number_at line 1) ≡ true → is_history_word (number_at line 2) ≡ true → is_last_word (number_at line 3) ≡ false → false ≡ ranges_t line
-  t_word h k l = rw (h, k, l)
-
-  pub t_score : is_history_word (number_at line 1) ≡ true → is_history_word (number_at line 2) ≡ true → is_last_word (number_at line 3) ≡ true → is_score (number_at line 4) ≡ ranges_t line
-  t_score h k l = rw (h, k, l)
-
-  pub u_word : is_lone_word (number_at line 1) ≡ false → false ≡ ranges_u line
-  u_word h = rw h
-
-  pub u_score : is_lone_word (number_at line 1) ≡ true → is_score (number_at line 2) && is_weight (number_at line 3) ≡ ranges_u line
-  u_score h = rw h
-
-  pub d_first : is_history_word (number_at line 1) ≡ false → false ≡ ranges_d line
-  d_first h = rw h
-
-  pub d_word : is_history_word (number_at line 1) ≡ true → is_last_word (number_at line 2) ≡ false → false ≡ ranges_d line
-  d_word h k = rw (h, k)
-
-  pub d_score : is_history_word (number_at line 1) ≡ true → is_last_word (number_at line 2) ≡ true → is_score (number_at line 3) && is_weight (number_at line 4) ≡ ranges_d line
-  d_score h k = rw (h, k)
-
-  -- the score at k and the weight behind it
-  pub weighted_score : (k : ℕ) → is_score (number_at line k) ≡ false → false ≡ is_score (number_at line k) && is_weight (number_at line (k + 1))
-  weighted_score k h = rw h
-
-  pub weighted_both : (k : ℕ) → is_score (number_at line k) ≡ true → is_score (number_at line (k + 1)) ≡ is_score (number_at line k) && is_weight (number_at line (k + 1))
-  weighted_both k h = rw h
+-- what stands between the first three numbers and the last
+pub middle : (xs : List ℤ) → drop_last (drop 3 xs) ≡ take (length xs - 1 - 3) (drop 3 xs)
+middle xs = let e : length (drop 3 xs) - 1 ≡ length xs - 1 - 3 = omega (arith, length-drop 3 xs) in rw (← e) (drop_last_take (drop 3 xs))

@@ -1,28 +1,25 @@
--- Values put one after another, each if there is a place for it, are as many as the list has places for; and counts as signed numbers.
-use Prim.Native.Nat.{ℕ, ◌+◌, ◌<◌}
+-- As many values as the list has places for; and counts as signed numbers.
+use Prim.Native.Nat.{ℕ, suc, ◌<◌, min}
 use native.Mathlib.Omega.{arith}
-use mathlib.Core.Path.{◌≡◌, ap, ◌∙◌, sym}
-use mathlib.Core.List.{List, [], ◌∷◌}
+use mathlib.Core.Path.{◌≡◌, refl, ap}
+use mathlib.Core.List.{List, [], ◌∷◌, ◌++◌}
 use lib.IntN.{ℤ, pos}
-use lib.ListN.{length, get_or, take, set}
-use lib.Seq.{length-take-le}
+use lib.ListN.{length, take, drop}
 use mir.Syntax.{w64}
 use mir.Val.{to_z}
 use mir.ValLaws.{to_z_pos}
-use Rattle.laws.proofs.Lists.{take_next}
 use Rattle.meaning.specs.Reply.{filled_with, supplied_numbers}
 use Rattle.meaning.specs.declared.Supplied.{Supplied}
-use Rattle.meaning.proofs.Filled.{filled_next}
 use Rattle.lists.specs.Report.{FewSupplied}
 
--- one value more
-pub put_more : (numbers report : List ℤ) {out : List ℤ} (i : ℕ) → i < length numbers → out ≡ filled_with (take i numbers) report
-    → set out i (get_or numbers i (pos 0)) ≡ filled_with (take (i + 1) numbers) report
-put_more numbers report {out} i h e =
-    let v = get_or numbers i (pos 0) in
-    ap (λ (k : ℕ). set out k v) (sym (length-take-le i numbers (omega arith)))
-    ∙ filled_next (take i numbers) report v e
-    ∙ ap (λ (l : List ℤ). filled_with l report) (sym (take_next numbers i (pos 0) h))
+-- as many values as there are places for, and the places behind them as before
+pub filled_front : (numbers report : List ℤ) (n : ℕ) → n ≡ min (length report) (length numbers) → take n numbers ++ drop n report ≡ filled_with numbers report
+unfolding filled_with
+filled_front [] report n e = let z : n ≡ 0 = omega arith in rw z refl
+filled_front (x ∷ numbers) [] n e = let z : n ≡ 0 = omega arith in rw z refl
+filled_front (x ∷ numbers) (y ∷ report) n e =
+    let z : n ≡ suc (min (length report) (length numbers)) = omega arith in
+    rw z (ap (λ (l : List ℤ). x ∷ l) (filled_front numbers report (min (length report) (length numbers)) refl))
 
 -- a count as a signed number
 pub as64 : (n : ℕ) → n < 9_223_372_036_854_775_808 → to_z w64 n ≡ pos n

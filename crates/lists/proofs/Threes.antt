@@ -3,7 +3,7 @@ use Prim.Native.Nat.{ℕ, zero, suc, ◌+◌, ◌*◌, ◌/◌, ◌≤◌, ◌<�
 use native.Mathlib.Omega.{arith}
 use mathlib.Core.Path.{◌≡◌, refl, sym, ◌∙◌, ap}
 use mathlib.Core.List.{List, [], ◌∷◌, ◌++◌}
-use lib.ListN.{length, get_or, take, drop}
+use lib.ListN.{length, get_or, take, drop, length-append}
 use lib.Seq.{length-take-le, take_at}
 use Rattle.meaning.specs.Reply.{written_over}
 use Rattle.meaning.specs.declared.Step.{Step}
@@ -76,16 +76,22 @@ take_least (suc m) [] = let z : min 0 (suc m) ≡ 0 = omega arith in rw z
 take_least (suc m) (x ∷ steps) = let z : min (suc (length steps)) (suc m) ≡ suc (min (length steps) m) = omega arith in rw z (ap (λ (l : List Step). x ∷ l) (take_least m steps))
 
 -- the first `count` steps stand in the numbers copied; there is no other within the first 33
-pub gathered : (steps numbers rest : List ℕ) (count j : ℕ) → count ≡ min (length steps / 3) 33 → j ≡ count * 3 → count * 3 ≤ length numbers
+pub gathered : (steps numbers rest : List ℕ) (count j : ℕ) → count ≡ min (length steps / 3) 33 → j ≡ count * 3
     → numbers ≡ take j steps ++ rest → steps_of (record { count = count; numbers = numbers }) ≡ take 33 (records_in steps)
-gathered steps numbers rest count j c e l n =
-    first_steps (record { count = count; numbers = numbers }) count l
+gathered steps numbers rest count j c e n =
+    first_steps (record { count = count; numbers = numbers }) count long
     ∙ sym (take_steps count numbers)
     ∙ ap records_in (ap (take (count * 3)) n ∙ front)
     ∙ take_steps count steps
     ∙ ap (λ (k : ℕ). take k (records_in steps)) (c ∙ ap (λ (k : ℕ). min k 33) (sym (how_many steps)))
     ∙ take_least 33 (records_in steps)
   where
+    long : count * 3 ≤ length numbers
+    long =
+        let a : length numbers ≡ length (take j steps) + length rest = ap length n ∙ length-append (take j steps) rest in
+        let b = length-take-le j steps (omega arith) in
+        omega arith
+
     front : take (count * 3) (take j steps ++ rest) ≡ take (count * 3) steps
     front = take_at (take j steps) rest (count * 3) (length-take-le j steps (omega arith) ∙ e) ∙ ap (λ (k : ℕ). take k steps) e
 

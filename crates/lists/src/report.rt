@@ -38,24 +38,12 @@ pub fn numbers_of(a: Answer) -> [i64; 8]
     ]
 }
 
-// Puts a value at a place of a list, if the list has that place.
-fn put(report: &mut [i64], k: usize, v: i64)
-    ensures { report.new ≡ set report.old k v }
-{
-    if k < report.len() {
-        report[k] = v;
-    }
-}
-
 // Puts as many of the numbers as the list has places.
 pub fn fill(report: &mut [i64], numbers: &[i64])
     ensures { report.new ≡ filled_with numbers.now report.old }
 {
-    let mut i = 0;
-    while i < numbers.len() {
-        put(report, i, numbers[i]);
-        i += 1;
-    }
+    let n = report.len().min(numbers.len());
+    report[..n].copy_from_slice(&numbers[..n]);
 }
 
 // Reports a scoring.
@@ -63,8 +51,7 @@ pub fn put_totals(report: &mut [i64], t: Totals)
     requires { FewSupplied t.supplied }
     ensures { report.new ≡ filled_with (totals_numbers t) report.old }
 {
-    let numbers = totals_of(t);
-    fill(report, &numbers);
+    fill(report, &totals_of(t));
 }
 
 // Reports a decode.
@@ -72,6 +59,5 @@ pub fn put_answer(report: &mut [i64], a: Answer)
     requires { Countable a }
     ensures { report.new ≡ filled_with (counts_of a) report.old }
 {
-    let numbers = numbers_of(a);
-    fill(report, &numbers);
+    fill(report, &numbers_of(a));
 }

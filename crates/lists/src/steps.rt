@@ -11,16 +11,10 @@ pub fn gather(steps: &[u16]) -> Plain
     ensures { Gathered result (records_in steps.now) }
 {
     let count = records::at_most_33(steps.len() / 3);
-    let mut numbers = [0u16; 99];
-    let mut j = 0;
-    while j < 3 * count {
-        numbers[j] = steps[j];
-        j += 1;
-    }
-    Plain {
-        count: count,
-        numbers: numbers,
-    }
+    let end = 3 * count;
+    let mut numbers = [0; 99];
+    numbers[..end].copy_from_slice(&steps[..end]);
+    Plain { count, numbers }
 }
 
 // Writes the steps at the beginning of a caller's numbers; no number behind them changes.
@@ -28,11 +22,6 @@ pub fn put_all(steps: &mut [u16], plain: Plain)
     requires { (3 * plain.count ≤ length steps.old) × (plain.count ≤ 33) }
     ensures { steps.new ≡ written_over (numbers_of (steps_of plain)) steps.old }
 {
-    let numbers = plain.numbers;
     let end = 3 * plain.count;
-    let mut j = 0;
-    while j < end {
-        steps[j] = numbers[j];
-        j += 1;
-    }
+    steps[..end].copy_from_slice(&plain.numbers[..end]);
 }

@@ -1,4 +1,6 @@
 -- Questions 3 to 6 and 20 by the survey: what an answer of `survey_refusal` and of the comparison of the n-grams says of all lines.
+use Rattle.std.specs.declared.option.Option.TheVariants.{Some, None}
+use Rattle.std.specs.declared.option.Option.{Option}
 use Prim.Native.Nat.{ℕ, zero, suc, ◌+◌, ◌-◌, ◌≤◌, ◌<◌}
 use native.Mathlib.Omega.{arith}
 use mathlib.Core.Path.{◌≡◌, refl, sym, ◌∙◌, ap, ap₂}
@@ -23,8 +25,6 @@ use Rattle.ngrams.proofs.Lines.{Copied, copied_key, grams_are, keys_padded}
 use Rattle.ngrams.proofs.Repeats.{orders, none_alike, answers}
 use Rattle.lines.specs.Kinds.{most_of}
 use Rattle.book.specs.declared.survey.Survey.{Survey}
-use Rattle.book.specs.declared.loaded.Surveyed.{Surveyed}
-use Rattle.book.specs.declared.loaded.Surveyed.TheVariants.{Whole, Broken}
 use Rattle.book.specs.Survey.{no_tally, tally_from, is_few, are_all_few, shorter_count, gram_count, survey_refusal}
 use Rattle.book.specs.Loaded.{SurveyOf}
 use Rattle.book.proofs.Counts.{tally_is, grams_counted, survey_one, repeats_refusal, last_refusal, survey_refusal_lem}
@@ -34,17 +34,6 @@ use Rattle.loading.specs.Loaded.{WholeAs, SurveyIs, stores_counts, CountedAs, Kn
 use Rattle.meaning.proofs.Numbered.{number_from, refused_first}
 
 -- ════ questions 3 to 5
-
--- it is one of three refusals, or none
-pub judged_none : (s : Survey) (tally : List ℕ) (k : ℕ) → k ≡ survey_refusal s tally → (k ≡ 3 → ⊥) → (k ≡ 4 → ⊥) → (k ≡ 5 → ⊥) → survey_refusal s tally ≡ 0
-unfolding survey_refusal
-judged_none s tally k e three four five = by (s.headed && eqb (get_or tally 1 0) 1) s.ranged (are_all_few tally) e
-  where
-    by : (a b c : Bool) → k ≡ (3 unless a orelse 4 unless b orelse 5 unless c) → (3 unless a orelse 4 unless b orelse 5 unless c) ≡ 0
-    by true true true q = refl
-    by true true false q = absurd (five q)
-    by true false c q = absurd (four q)
-    by false b c q = absurd (three q)
 
 -- question 5 passes
 pub judged_few : (s : Survey) (tally : List ℕ) → survey_refusal s tally ≡ 0 → are_all_few tally ≡ true
@@ -82,14 +71,9 @@ none_of test lines z line m = is_false (λ t. clash (mem_any test lines line m t
 
 -- ════ questions 6 and 20
 
--- it is one of two refusals, or none
-pub compared_none : (lines : List (List ℤ)) (k : ℕ) → k ≡ repeats_refusal lines → (k ≡ 6 → ⊥) → (k ≡ 20 → ⊥) → (is_no_triple_twice lines ≡ true) × (is_no_shorter_twice lines ≡ true)
-compared_none lines k e six twenty = by (is_no_triple_twice lines) (is_no_shorter_twice lines) e
-  where
-    by : (a b : Bool) → k ≡ (6 unless a orelse 20 unless b) → (a ≡ true) × (b ≡ true)
-    by true true q = (refl, refl)
-    by true false q = absurd (twenty q)
-    by false b q = absurd (six q)
+-- where neither refuses, both pass
+compared_none : (lines : List (List ℤ)) → repeats_refusal lines ≡ 0 → (is_no_triple_twice lines ≡ true) × (is_no_shorter_twice lines ≡ true)
+compared_none lines e = (test_passes 5 (is_no_triple_twice lines) (first_passes (6 unless is_no_triple_twice lines) _ e), test_passes 19 (is_no_shorter_twice lines) (rest_passes (6 unless is_no_triple_twice lines) _ e))
 
 module _ {form : Form} {lines : List (List ℤ)} {index₀ index tally : List ℕ} {s : Survey} (w : WholeAs form lines index₀ index tally s) (room : record_at (gram_count tally) ≤ length index) (four : survey_refusal s tally ≡ 0) (stored : is_counted form lines ≡ true) where
   last_refusal_lem : lines_refusal form lines ≡ repeats_refusal lines
@@ -136,11 +120,11 @@ module _ {form : Form} {lines : List (List ℤ)} {index₀ index tally : List �
       (none_of is_d lines (omega (arith, z, counted_kind 5 (omega arith) (omega arith))) line is.0)
 
   -- `index_all` left the records as they were
-  pub different_so : {after : List ℕ} → KeptRecords index after → (k : ℕ) → k ≡ repeat_refusal index (gram_count tally) → (k ≡ 6 → ⊥) → (k ≡ 20 → ⊥) → Indexed after (gram_count tally)
+  pub different_so : {after : List ℕ} → KeptRecords index after → repeat_refusal index (gram_count tally) ≡ 0 → Indexed after (gram_count tally)
       → Known (lines_refusal form lines) (book_of_lines lines) after (record { count = gram_count tally; shorter = shorter_count tally })
   unfolding book_of_lines
-  different_so {after} same k e six twenty x =
-      let n = compared_none lines k (e ∙ compared_so ∙ last_refusal_lem) six twenty in
+  different_so {after} same e x =
+      let n = compared_none lines (sym (compared_so ∙ last_refusal_lem) ∙ e) in
       record {
         passes = last_refusal_lem ∙ rw (n.0, n.1);
         grams_are = kept_grams same (gram_count tally) ∙ ap (grams_in index) counted ∙ grams_are form index lines copied w.whole ranged;
@@ -177,8 +161,8 @@ module _ {form : Form} {lines : List (List ℤ)} {index₀ index tally : List �
       ∙ refused_first (number refusal) _ (number_from refusal)
 
 -- one of 3 to 5 refuses
-pub judged_first : {j k n : ℕ} (m : ℕ) → n ≡ j → n ≡ suc k → suc k ≡ j orelse m
-judged_first m e f = sym (ap (λ (i : ℕ). i orelse m) (sym e ∙ f))
+pub judged_first : (refusal : Refusal) {j : ℕ} (m : ℕ) → number refusal ≡ j → number refusal ≡ j orelse m
+judged_first refusal m e = sym (ap (λ (i : ℕ). i orelse m) (sym e) ∙ refused_first (number refusal) m (number_from refusal))
 
 -- none of 3 to 5 does, and 21 is asked
 pub judged_stored : {j : ℕ} {counted found : Bool} → j ≡ 0 → counted ≡ found → 21 unless found ≡ j orelse 21 unless counted
@@ -191,14 +175,14 @@ judged_passed s tally counted e = (first_passes (survey_refusal s tally) _ e, te
 -- ════ a loaded list
 
 -- its survey is that of its lines
-pub survey_loaded : (loaded : List ℤ) (index₀ index₁ tally : List ℕ) (r : Surveyed) → SurveyOf loaded index₀ index₁ tally r → SurveyIs in_list (loaded_lines loaded) index₀ index₁ tally r
-survey_loaded loaded index₀ index₁ tally (Whole s) e = record { whole = e.0; surveyed = e.1; tallied = e.2; gathered = e.3 }
-survey_loaded loaded index₀ index₁ tally Broken e = e
+pub survey_loaded : (loaded : List ℤ) (index₀ index₁ tally : List ℕ) (r : Option Survey) → SurveyOf loaded index₀ index₁ tally r → SurveyIs in_list (loaded_lines loaded) index₀ index₁ tally r
+survey_loaded loaded index₀ index₁ tally (Some s) e = record { whole = e.0; surveyed = e.1; tallied = e.2; gathered = e.3 }
+survey_loaded loaded index₀ index₁ tally None e = e
 
 -- where they are whole, so is the tally
-pub tally_loaded : (loaded : List ℤ) (index₀ index₁ tally : List ℕ) (r : Surveyed) → SurveyOf loaded index₀ index₁ tally r → all (is_whole in_list) (loaded_lines loaded) ≡ true → tally ≡ tally_from no_tally (loaded_lines loaded)
-tally_loaded loaded index₀ index₁ tally (Whole s) e w = e.2
-tally_loaded loaded index₀ index₁ tally Broken e w = clash w e
+pub tally_loaded : (loaded : List ℤ) (index₀ index₁ tally : List ℕ) (r : Option Survey) → SurveyOf loaded index₀ index₁ tally r → all (is_whole in_list) (loaded_lines loaded) ≡ true → tally ≡ tally_from no_tally (loaded_lines loaded)
+tally_loaded loaded index₀ index₁ tally (Some s) e w = e.2
+tally_loaded loaded index₀ index₁ tally None e w = clash w e
 
 -- question 21 by the numbers that stand behind the first four: they are the last two of the B record
 pub stored_loaded : (loaded : List ℤ) (tally : List ℕ) (counted : Bool) → counted ≡ stores_counts loaded tally → (all (is_whole in_list) (loaded_lines loaded) ≡ true → tally ≡ tally_from no_tally (loaded_lines loaded)) → CountedAs in_list (loaded_lines loaded) counted

@@ -1,25 +1,24 @@
 -- What the lines of a book answer to questions 2 to 6, 21 and 20, and what a search has of a book that passes them.
+use Rattle.std.specs.declared.result.Result.TheVariants.{Ok, Err}
+use Rattle.std.specs.declared.result.Result.{Result}
+use Rattle.std.specs.declared.option.Option.TheVariants.{Some, None}
+use Rattle.std.specs.declared.option.Option.{Option}
+use Rattle.meaning.specs.declared.Refusal.{Refusal}
 use Rattle.std.specs.Prelude.{ℕ, ◌≡◌, Bool, true, false, ◌&&◌, List, ℤ, pos, get_or}
 use Rattle.laws.specs.Integers.{eqℤ}
 use Rattle.laws.specs.Lists.{all}
 use Rattle.meaning.specs.Questions.{number}
 use Rattle.meaning.specs.Book.{Form, number_at, is_whole, is_one_bFirst, is_counted, Book}
-use Rattle.meaning.specs.declared.Checked.{Checked}
-use Rattle.meaning.specs.declared.Checked.TheVariants.{Passed, Refused as CheckRefused}
 use Rattle.ngrams.specs.Grams.{grams_in, Listing}
 use Rattle.book.specs.declared.survey.Survey.{Survey}
-use Rattle.book.specs.declared.loaded.Surveyed.{Surveyed}
-use Rattle.book.specs.declared.loaded.Surveyed.TheVariants.{Whole, Broken}
 use Rattle.book.specs.Survey.{fresh, survey_from, no_tally, tally_from}
 use Rattle.book.specs.Grams.{grams_from}
 use Rattle.loading.specs.declared.load.Grams.{Grams}
-use Rattle.loading.specs.declared.load.Loaded.{Loaded}
-use Rattle.loading.specs.declared.load.Loaded.TheVariants.{Book as Passes, Refused}
 
 -- the number of a refusal, 0 for none
-abbrev pub refusal_of : Checked → ℕ
-refusal_of Passed = 0
-refusal_of (CheckRefused refusal) = number refusal
+abbrev pub refusal_of : Result Unit Refusal → ℕ
+refusal_of (Ok tt) = 0
+refusal_of (Err refusal) = number refusal
 
 -- ════ the survey of lines
 
@@ -32,9 +31,9 @@ pub record WholeAs (form : Form) (lines : List (List ℤ)) (index₀ index₁ ta
   pub gathered : index₁ ≡ grams_from index₀ 0 lines
 
 -- question 2 of all lines; where it passes, their survey
-abbrev pub SurveyIs : Form → List (List ℤ) → List ℕ → List ℕ → List ℕ → Surveyed → Type 0
-SurveyIs form lines index₀ index₁ tally (Whole s) = WholeAs form lines index₀ index₁ tally s
-SurveyIs form lines index₀ index₁ tally Broken = all (is_whole form) lines ≡ false
+abbrev pub SurveyIs : Form → List (List ℤ) → List ℕ → List ℕ → List ℕ → Option Survey → Type 0
+SurveyIs form lines index₀ index₁ tally (Some s) = WholeAs form lines index₀ index₁ tally s
+SurveyIs form lines index₀ index₁ tally None = all (is_whole form) lines ≡ false
 
 -- the two counts that stand in a loaded list behind the first four numbers are those of the tally
 abbrev pub stores_counts : List ℤ → List ℕ → Bool
@@ -53,11 +52,11 @@ pub record Known (refusal : ℕ) (book : Book) (index : List ℕ) (grams : Grams
   pub listing : Listing index grams.count grams.shorter
 
 -- of lines or a list that the questions answer with `refusal`, 0 for none, and that state the book `book`
-abbrev pub Answered : ℕ → Book → List ℕ → Loaded → Type 0
-Answered refusal book index (Passes grams) = Known refusal book index grams
-Answered refusal book index (Refused question) = refusal ≡ number question
+abbrev pub Answered : ℕ → Book → List ℕ → Result Grams Refusal → Type 0
+Answered refusal book index (Ok grams) = Known refusal book index grams
+Answered refusal book index (Err question) = refusal ≡ number question
 
 -- the answer without what a search needs
-abbrev pub replied : Loaded → Checked
-replied (Passes grams) = Passed
-replied (Refused refusal) = CheckRefused refusal
+abbrev pub replied : Result Grams Refusal → Result Unit Refusal
+replied (Ok grams) = (Ok tt)
+replied (Err refusal) = Err refusal

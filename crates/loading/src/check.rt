@@ -1,29 +1,27 @@
 // Checking a loaded book, and the target words of its entries.
 ghost use Rattle.std.specs.Prelude.{◌≡◌, eqb};
 ghost use Rattle.meaning.specs.Book.{book_refusal, target_part};
-ghost use Rattle.meaning.specs.Reply.{checked_reply, check_book};
+ghost use Rattle.meaning.specs.Reply.{reply_of, check_book};
 ghost use Rattle.book.specs.Target.{IsPart, IsPartOf};
 ghost use Rattle.loading.specs.Loaded.{replied};
 
 use crate::load;
-use crate::load::Loaded;
+use crate::load::Grams;
 use book::target;
 use book::target::Part;
-use meaning::Checked;
+use meaning::Refusal;
 
 // The answer without what a search needs.
-pub fn reply_of(loaded: Loaded) -> Checked
+pub fn reply_of(loaded: Result<Grams, Refusal>) -> Result<(), Refusal>
     ensures { result ≡ replied loaded }
 {
-    match loaded {
-        Loaded::Book(_) => Checked::Passed,
-        Loaded::Refused(refusal) => Checked::Refused(refusal),
-    }
+    loaded?;
+    Ok(())
 }
 
 // Questions 2 to 6, 21 and 20, of a loaded book.
-pub fn check_book(book: &[i32]) -> Checked
-    ensures { checked_reply result ≡ check_book book.now }
+pub fn check_book(book: &[i32]) -> Result<(), Refusal>
+    ensures { reply_of result ≡ check_book book.now }
 {
     let mut index = [0u16; ngrams::RECORDS_END];
     let loaded = load::load(book, &mut index);
@@ -34,10 +32,7 @@ pub fn check_book(book: &[i32]) -> Checked
 fn passes(book: &[i32]) -> bool
     ensures { result ≡ eqb (book_refusal book.now) 0 }
 {
-    match check_book(book) {
-        Checked::Passed => true,
-        Checked::Refused(_) => false,
-    }
+    check_book(book).is_ok()
 }
 
 // Where the target words of an entry, counted from 1, stand in the list; for a number that is no entry, or a list that 2 to 6

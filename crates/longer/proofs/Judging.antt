@@ -1,7 +1,12 @@
 -- What the n-grams answer to 24 and 25, and what the longer book answers to its questions, from what was noted of both.
+use Rattle.std.specs.declared.result.Result.TheVariants.{Ok, Err}
+use Rattle.std.specs.declared.result.Result.{Result}
+use Rattle.std.specs.declared.option.Option.TheVariants.{Some}
+use Rattle.loading.specs.declared.load.Grams.{Grams}
+use Rattle.std.proofs.Common.{unwrap_or}
 use Prim.Native.Nat.{ℕ, suc, ◌+◌, ◌*◌, ◌^◌, ◌≤◌, ◌<◌}
 use mathlib.Core.Path.{◌≡◌, refl, sym, ap, ◌∙◌}
-use mathlib.Core.Bool.{Bool, true, false, ◌&&◌, cond, and-true}
+use mathlib.Core.Bool.{Bool, true, false, ◌&&◌, and-true}
 use mathlib.Core.List.{List, [], ◌∷◌, ◌++◌, map}
 use native.Mathlib.Omega.{arith}
 use borrow.Author.Tests.{leb-true, eqb-true, eqb-false}
@@ -24,7 +29,6 @@ use Rattle.meaning.proofs.Sizes.{passed_few}
 use Rattle.book.specs.declared.survey.Survey.{Survey}
 use Rattle.book.specs.Survey.{fresh, with_line, survey_from, no_tally, with_kind, tally_from, gram_count, Few}
 use Rattle.book.specs.Grams.{grams_from}
-use Rattle.book.specs.declared.loaded.Surveyed.TheVariants.{Whole}
 use Rattle.book.specs.Loaded.{SurveyOf}
 use Rattle.book.proofs.Counts.{few_none, few_line, few_more, tally_is}
 use Rattle.arpa.specs.File.{Ngram, is_arpa}
@@ -38,10 +42,7 @@ use Rattle.arpa_model.specs.declared.walk.Cursor.{Cursor}
 use Rattle.arpa_model.specs.declared.model.Model.{Model}
 use Rattle.arpa_model.specs.Walk.{ngrams_at}
 use Rattle.arpa_model.specs.Model.{are_scores_in, lines_in, IsRoom, Imports}
-use Rattle.meaning.specs.declared.Checked.{Checked}
 use Rattle.meaning.specs.declared.Refusal.{Refusal}
-use Rattle.loading.specs.declared.load.Loaded.{Loaded}
-use Rattle.loading.specs.declared.load.Loaded.TheVariants.{Book as Passes, Refused}
 use Rattle.loading.specs.Loaded.{refusal_of, Answered, replied}
 use Rattle.longer.specs.Longer.{Opened, LongerChecked, model_refusal, texts_refusal, counts_in, AreSince, size_since, longer_of, judge_refusal, LongerIs}
 use Rattle.longer.proofs.Joined.{Joined, joined_whole, tally_++}
@@ -62,7 +63,7 @@ module _ {text list : List ℕ} {c : Cursor} {s : Survey} {index₀ tally₀ : L
   refusal_texts = rw (known_texts, ranged_texts) refl
 
   -- where 25 passes: u, and what is known of the lines
-  pub unseen_texts : m.ranged ≡ true → (u : ℤ) → cond m.unknown m.unseen u ≡ unseen_by (unknown_of text) u
+  pub unseen_texts : m.ranged ≡ true → (u : ℤ) → unwrap_or m.unseen u ≡ unseen_by (unknown_of text) u
   unfolding unknown_of
   unseen_texts h u = rw o.ngrams at (i.carried.unseen_is h u)
 
@@ -177,7 +178,7 @@ module _ {text list : List ℕ} {c : Cursor} (o : Opened text c) {book : List �
   }
 
   -- so the questions of the longer book are asked
-  pub judged : (r : Checked) → LongerChecked m index tally r → refusal_of r ≡ judge_refusal text list book
+  pub judged : (r : Result Unit Refusal) → LongerChecked m index tally r → refusal_of r ≡ judge_refusal text list book
   judged r said =
       said (with_counts (longer_lines text list lines)) index₀
       (λ h. joined_whole text list o.arpa index₀ index tally m.survey lines passed (unseen_score text list lines (sym (ranged_texts o i) ∙ h) passed) (joined h))
@@ -211,7 +212,7 @@ module _ {text list : List ℕ} {c : Cursor} (o : Opened text c) {book : List �
       triples_to = few 3 (omega arith) (omega arith);
     }
 
-    pub found : LongerIs text list book (record { unknown = m.unknown; unseen = m.unseen; triples = get_or tally 3 0; size = size_since (counts_in tally₁) (counts_in tally) })
+    pub found : LongerIs text list book (record { unseen = m.unseen; triples = get_or tally 3 0; size = size_since (counts_in tally₁) (counts_in tally) })
     found = record {
       passes = passes;
       unseen_is = unseen_texts o i ranged;
@@ -223,9 +224,9 @@ module _ {text list : List ℕ} {c : Cursor} (o : Opened text c) {book : List �
 -- ════ the answers of code
 
 -- an answer without what a search needs is its refusal
-pub answered_refusal : (refusal : ℕ) (book : Book) (index : List ℕ) (r : Loaded) → Answered refusal book index r → refusal_of (replied r) ≡ refusal
-answered_refusal refusal book index (Passes grams) a = sym a.passes
-answered_refusal refusal book index (Refused q) a = sym a
+pub answered_refusal : (refusal : ℕ) (book : Book) (index : List ℕ) (r : Result Grams Refusal) → Answered refusal book index r → refusal_of (replied r) ≡ refusal
+answered_refusal refusal book index (Ok grams) a = sym a.passes
+answered_refusal refusal book index (Err q) a = sym a
 
 -- where 24 and 25 pass, the values are in a score's range
 pub model_ranged : (m : Model) → model_refusal m ≡ 0 → m.ranged ≡ true
@@ -236,7 +237,7 @@ pub refused_stands : (q : Refusal) (k m : ℕ) → number q ≡ k → number q �
 refused_stands q k m e = sym (refused_first (number q) m (number_from q)) ∙ ap (λ (j : ℕ). j orelse m) e
 
 -- the survey of a book that passes is whole
-pub surveyed_whole : (book : List ℤ) {index₀ index tally : List ℕ} {s : Survey} → book_refusal book ≡ 0 → SurveyOf book index₀ index tally (Whole s) → BookSurveyed book index₀ index tally s
+pub surveyed_whole : (book : List ℤ) {index₀ index tally : List ℕ} {s : Survey} → book_refusal book ≡ 0 → SurveyOf book index₀ index tally (Some s) → BookSurveyed book index₀ index tally s
 surveyed_whole book e w = record { refusal = e; survey_is = w.1; tally_is = w.2; index_is = w.3 }
 
 pub not_broken : (book : List ℤ) → book_refusal book ≡ 0 → all (is_whole in_list) (loaded_lines book) ≡ false → ⊥
@@ -258,6 +259,6 @@ unfolding are_scores imported_of unknown_of
 scores_opened {text} list book o e = ap are_scores_in o.ngrams ∙ test_passes 24 (are_scores text) (rest_passes (24 unless are_known text list) (25 unless are_scores text) (first_passes (texts_refusal text list) _ e))
 
 -- the outline of a text opens it
-pub opened : {text : List ℕ} {top at : ℕ} (words : ℕ) → Outlines text (record { top = top; at = at }) → Opened text (record { top = top; words = words; at = at; order = 0 })
+pub opened : {text : List ℕ} {top at : ℕ} → Outlines text (record { top = top; at = at }) → Opened text (record { top = top; at = at; order = 0 })
 unfolding ngrams_at
-opened words o = record { arpa = o.arpa; walking = record { within = o.within; few = o.few; order_to = omega arith; walk = o.walk }; ngrams = o.ngrams }
+opened o = record { arpa = o.arpa; walking = record { within = o.within; few = o.few; order_to = omega arith; walk = o.walk }; ngrams = o.ngrams }

@@ -1,9 +1,10 @@
 -- The questions of an import behind 23, and what the longer book has, as code has them.
-use Rattle.std.specs.Prelude.{ℕ, ◌+◌, ◌-◌, ◌*◌, ◌≤◌, ◌≡◌, true, cond, List, ◌++◌, ℤ, length, get_or}
+use Rattle.std.specs.declared.result.Result.{Result}
+use Rattle.std.specs.Prelude.{ℕ, ◌+◌, ◌-◌, ◌*◌, ◌≤◌, ◌≡◌, true, List, ◌++◌, ℤ, length, get_or, unwrap_or, Result, MatchResult}
 use Rattle.laws.specs.Lists.{count, concat}
 use Rattle.meaning.specs.Questions.{number, ◌unless◌, ◌orelse◌}
 use Rattle.meaning.specs.Book.{in_list, grams_most, is_t, is_counted, lines_refusal, loaded_lines, book_refusal, loaded_book}
-use Rattle.meaning.specs.declared.Checked.{Checked}
+use Rattle.meaning.specs.declared.Refusal.{Refusal}
 use Rattle.arpa.specs.File.{ngrams_of, is_arpa}
 use Rattle.arpa.specs.Import.{unseen_by, unknown_of, imported_lines, longer_lines, are_known, are_scores}
 use Rattle.loading.specs.Loaded.{refusal_of, WholeAs}
@@ -11,8 +12,6 @@ use Rattle.arpa_model.specs.declared.walk.Cursor.{Cursor}
 use Rattle.arpa_model.specs.declared.model.Model.{Model}
 use Rattle.longer.specs.declared.Counts.{Counts}
 use Rattle.longer.specs.declared.Longer.{Longer}
-use Rattle.longer.specs.declared.Judged.{Judged}
-use Rattle.longer.specs.declared.Judged.TheVariants.{Passed, Refused}
 use Rattle.arpa_model.specs.Walk.{Walking, ngrams_at}
 
 -- question 23 has passed the text, and the cursor stands before its first n-gram
@@ -49,7 +48,7 @@ abbrev pub size_since : Counts → Counts → ℕ
 size_since before after = 4 * (after.words - before.words) + 5 * (after.pairs - before.pairs) + 5 * (after.triples - before.triples)
 
 -- the answer of 24 and 25, and of the questions of lines that were surveyed and whose counts are right, where 25 passes
-abbrev pub LongerChecked : Model → List ℕ → List ℕ → Checked → Type 0
+abbrev pub LongerChecked : Model → List ℕ → List ℕ → Result Unit Refusal → Type 0
 LongerChecked m index tally r =
     (lines : List (List ℤ)) (index₀ : List ℕ) → (m.ranged ≡ true → WholeAs in_list lines index₀ index tally m.survey × (is_counted in_list lines ≡ true)) → refusal_of r ≡ model_refusal m orelse lines_refusal in_list lines
 
@@ -64,11 +63,10 @@ judge_refusal text list book = texts_refusal text list orelse (book_refusal book
 -- none refuses: u, the T lines and the numbers more of the longer book
 pub record LongerIs (text list : List ℕ) (book : List ℤ) (l : Longer) : Type 0 where
   pub passes : judge_refusal text list book ≡ 0
-  pub unseen_is : (u : ℤ) → cond l.unknown l.unseen u ≡ unseen_by (unknown_of text) u
+  pub unseen_is : (u : ℤ) → unwrap_or l.unseen u ≡ unseen_by (unknown_of text) u
   pub triples_are : l.triples ≡ count is_t (loaded_lines book ++ imported_lines text list)
   pub triples_few : l.triples ≤ grams_most
   pub size_is : l.size ≡ length (concat (imported_lines text list))
 
-abbrev pub JudgedAs : List ℕ → List ℕ → List ℤ → Judged → Type 0
-JudgedAs text list book (Passed l) = LongerIs text list book l
-JudgedAs text list book (Refused refusal) = judge_refusal text list book ≡ number refusal
+abbrev pub JudgedAs : List ℕ → List ℕ → List ℤ → Result Longer Refusal → Type 0
+JudgedAs text list book r = MatchResult r (LongerIs text list book) (λ refusal. judge_refusal text list book ≡ number refusal)

@@ -1,4 +1,7 @@
 -- The replies of the calls, and what the lent lists hold afterwards.
+use Rattle.std.specs.declared.result.Result.TheVariants.{Ok, Err}
+use Rattle.std.specs.declared.result.Result.{Result}
+use Rattle.meaning.specs.declared.Refusal.{Refusal}
 use Rattle.std.specs.Prelude.{ℕ, zero, suc, ◌*◌, ◌/◌, ◌≡◌, not, ◌&&◌, ◌||◌, List, [], ◌∷◌, ◌++◌, leb, ℤ, pos, negsuc, length, drop, replicate}
 use Rattle.std.proofs.Math.Option.{Option, none, some}
 use Rattle.std.specs.Int.Signed.{le_z}
@@ -10,17 +13,9 @@ use Rattle.meaning.specs.Derivation.{fits, jump, target_words, score_of, supplie
 use Rattle.meaning.specs.State.{Key, Hyp, start, next_key, is_free}
 use Rattle.meaning.specs.Search.{is_off, entered, last_set, answer}
 use Rattle.meaning.specs.declared.Step.{Step}
-use Rattle.meaning.specs.declared.Read.{Read}
-use Rattle.meaning.specs.declared.Read.TheVariants.{Numbers, Refused as ReadRefused}
-use Rattle.meaning.specs.declared.Checked.{Checked}
-use Rattle.meaning.specs.declared.Checked.TheVariants.{Passed, Refused as CheckRefused}
 use Rattle.meaning.specs.declared.Supplied.{Supplied}
 use Rattle.meaning.specs.declared.Totals.{Totals}
-use Rattle.meaning.specs.declared.Scored.{Scored}
-use Rattle.meaning.specs.declared.Scored.TheVariants.{Done as Totalled, Refused as ScoreRefused}
 use Rattle.meaning.specs.declared.Answer.{Answer}
-use Rattle.meaning.specs.declared.Decoded.{Decoded}
-use Rattle.meaning.specs.declared.Decoded.TheVariants.{Done, Refused as DecodeRefused}
 
 -- "A refusal is its number and no more."; else what is reported
 pub data Reply (A : Type 0) : Type 0 where
@@ -31,6 +26,11 @@ pub data Reply (A : Type 0) : Type 0 where
 abbrev pub reply : {A : Type 0} → ℕ → A → Reply A
 reply zero a = done a
 reply (suc k) a = refused (suc k)
+
+-- number and values of each case of a call's answer
+abbrev pub reply_of : {A : Type 0} → Result A Refusal → Reply A
+reply_of (Ok a) = done a
+reply_of (Err refusal) = refused (number refusal)
 
 -- a lent list after `new` was written at its beginning: "places beyond the reported counts are unchanged"
 abbrev pub written_over : {A : Type 0} → List A → List A → List A
@@ -50,11 +50,6 @@ written_if (suc k) new old = old
 
 -- ════ reading a book, and a direction
 
--- number and values of each case of the answer
-abbrev pub read_reply : Read → Reply ℕ
-read_reply (Numbers count) = done count
-read_reply (ReadRefused refusal) = refused (number refusal)
-
 -- "Reading reports how many numbers it wrote .."
 unfoldable pub read_book : List ℕ → ℕ → Reply ℕ
 read_book text places = reply (read_refusal text places) (length (loaded_of text))
@@ -72,10 +67,6 @@ read_direction_list text lent = written_if (read_direction_refusal text (length 
 
 -- ════ checking a loaded book
 
-abbrev pub checked_reply : Checked → Reply Unit
-checked_reply Passed = done tt
-checked_reply (CheckRefused refusal) = refused (number refusal)
-
 unfoldable pub check_book : List ℤ → Reply Unit
 check_book loaded = reply (book_refusal loaded) tt
 
@@ -88,10 +79,6 @@ supplied_numbers s = pos s.triples ∷ pos s.pairs ∷ pos s.words ∷ pos s.uns
 -- the numbers of a scoring in the order of a report: score, triples, pairs, words, u
 abbrev pub totals_numbers : Totals → List ℤ
 totals_numbers t = t.score ∷ supplied_numbers t.supplied
-
-abbrev pub scored_reply : Scored → Reply Totals
-scored_reply (Totalled totals) = done totals
-scored_reply (ScoreRefused refusal) = refused (number refusal)
 
 -- 16, 17 and 18 of one step, and then what is asked after it
 abbrev pub step_refusal : Book → List ℕ → Key → Step → ℕ → ℕ
@@ -125,10 +112,6 @@ score_proposal loaded direction steps = reply (proposal_refusal loaded direction
 -- the numbers of an answer in the order of a report: score, steps, words, states, triples, pairs, words, u
 abbrev pub counts_of : Answer → List ℤ
 counts_of a = a.score ∷ pos a.steps ∷ pos a.words ∷ pos a.states ∷ supplied_numbers a.supplied
-
-abbrev pub decoded_reply : Decoded → Reply Answer
-decoded_reply (Done a) = done a
-decoded_reply (DecodeRefused refusal) = refused (number refusal)
 
 -- the lengths of the lent lists: step records, words, and the store's numbers
 pub record Lent : Type 0 where
@@ -203,8 +186,8 @@ decoded_words loaded direction width lent words =
 
 -- the whole of a decode, on all inputs: its reply, and each lent list before (₀) and after (₁)
 pub record Decodes (loaded : List ℤ) (direction : List ℕ) (width : ℤ) (steps₀ steps₁ : List Step) (words₀ words₁ : List ℕ)
-    (store₀ store₁ : List ℤ) (result : Decoded) : Type 0 where
-  pub reply_is : decoded_reply result ≡ decode loaded direction width (record { steps = length steps₀; words = length words₀; store = length store₀ })
+    (store₀ store₁ : List ℤ) (result : Result Answer Refusal) : Type 0 where
+  pub reply_is : reply_of result ≡ decode loaded direction width (record { steps = length steps₀; words = length words₀; store = length store₀ })
   pub steps_are : steps₁ ≡ decoded_steps loaded direction width (record { steps = length steps₀; words = length words₀; store = length store₀ }) steps₀
   pub words_are : words₁ ≡ decoded_words loaded direction width (record { steps = length steps₀; words = length words₀; store = length store₀ }) words₀
   pub store_is : store₁ ≡ decoded_store loaded direction width (record { steps = length steps₀; words = length words₀; store = length store₀ }) store₀

@@ -137,32 +137,11 @@ pub struct Supplied {
     pub unseen: usize,
 }
 
-// Reading a book or a direction: how many numbers were written.
-#[derive(Clone, Copy)]
-pub enum Read {
-    Numbers(usize),
-    Refused(Refusal),
-}
-
-// Checking a loaded book.
-#[derive(Clone, Copy)]
-pub enum Checked {
-    Passed,
-    Refused(Refusal),
-}
-
 // A successful scoring: the score, and who supplied the scores of the target words.
 #[derive(Clone, Copy)]
 pub struct Totals {
     pub score: i64,
     pub supplied: Supplied,
-}
-
-// Scoring a proposed list of steps.
-#[derive(Clone, Copy)]
-pub enum Scored {
-    Done(Totals),
-    Refused(Refusal),
 }
 
 // A successful decode: the score, how many steps and target words were written, how many states were entered, and who supplied the scores of the
@@ -174,10 +153,4 @@ pub struct Answer {
     pub words: usize,
     pub states: usize,
     pub supplied: Supplied,
-}
-
-#[derive(Clone, Copy)]
-pub enum Decoded {
-    Done(Answer),
-    Refused(Refusal),
 }

@@ -9,34 +9,7 @@ pub fn put_front(list: &mut [i32], numbers: &[i32])
     requires { length numbers.now ≤ length list.old }
     ensures { list.new ≡ written_over numbers.now list.old }
 {
-    let mut i = 0;
-    while i < numbers.len() {
-        list[i] = numbers[i];
-        i += 1;
-    }
-}
-
-// Moves what stands behind the first `size` numbers down to the front; the last `size` places stay as they were.
-fn move_down(list: &mut [i32], size: usize)
-    requires { size ≤ length list.old }
-    ensures { list.new ≡ written_over (drop size list.old) list.old }
-{
-    let mut i = 0;
-    while i < list.len() - size {
-        list[i] = list[i + size];
-        i += 1;
-    }
-}
-
-// Every number is zero.
-fn clear(list: &mut [i32])
-    ensures { list.new ≡ replicate (length list.old) (pos 0) }
-{
-    let mut i = 0;
-    while i < list.len() {
-        list[i] = 0;
-        i += 1;
-    }
+    list[..numbers.len()].copy_from_slice(numbers);
 }
 
 // Takes the first `size` numbers out: the others move down, and zeros fill the places that they leave.
@@ -44,7 +17,7 @@ pub fn take_out(list: &mut [i32], size: usize)
     requires { size ≤ length list.old }
     ensures { list.new ≡ drop size list.old ++ replicate size (pos 0) }
 {
-    move_down(list, size);
+    list.copy_within(size.., 0);
     let kept = list.len() - size;
-    clear(&mut list[kept..]);
+    list[kept..].fill(0);
 }

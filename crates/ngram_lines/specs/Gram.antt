@@ -1,5 +1,5 @@
 -- What becomes of the line of an n-gram.
-use Rattle.std.specs.Prelude.{ℕ, ◌≤◌, ◌≡◌, true, false, ◌&&◌, List, [], ◌∷◌, map, ℤ, length, take}
+use Rattle.std.specs.Prelude.{ℕ, ◌≤◌, ◌≡◌, true, false, ◌&&◌, List, [], ◌∷◌, map, ℤ, length, take, Option, unwrap_or, is_some}
 use Rattle.laws.specs.Lists.{all}
 use Rattle.meaning.specs.Book.{is_score, is_weight}
 use Rattle.arpa.specs.File.{Ngram, is_gram_line, is_unknown}
@@ -7,7 +7,6 @@ use Rattle.arpa.specs.Words.{word_number, is_known, spelled_most}
 use Rattle.arpa.specs.Import.{is_imported, imported_line}
 use Rattle.tokens.specs.Fields.{FieldsAt}
 use Rattle.thousandths.specs.Rounded.{Rounded}
-use Rattle.ngram_lines.specs.declared.Word.{Word}
 use Rattle.ngram_lines.specs.declared.Words.{Words}
 use Rattle.ngram_lines.specs.declared.Row.{Row}
 use Rattle.ngram_lines.specs.declared.Gram.{Gram}
@@ -22,11 +21,11 @@ pub record GramRead (text places : List ℕ) (count order : ℕ) : Type 0 where
   pub order_from : 1 ≤ order
   pub order_to : order ≤ 3
 
--- a word by the word list: its number, 0 where it has none
-pub record WordIs (list word : List ℕ) (r : Word) : Type 0 where
-  pub number_is : r.number ≡ word_number list word
-  pub known_is : r.known ≡ is_known list word
-  pub small : r.number ≤ spelled_most
+-- a word by the word list: its number, which is 0 by the definition where it has none
+pub record WordIs (list word : List ℕ) (r : Option ℕ) : Type 0 where
+  pub number_is : unwrap_or r 0 ≡ word_number list word
+  pub known_is : is_some r ≡ is_known list word
+  pub small : unwrap_or r 0 ≤ spelled_most
 
 -- each fits a loaded number
 pub record AreSmall (w : Words) : Type 0 where

@@ -9,26 +9,16 @@ ghost use Rattle.arpa.specs.Import.{holds, is_passed_over, line_of};
 ghost use Rattle.tokens.specs.Scan.{field_at, FieldNoted};
 ghost use Rattle.tokens.specs.Fields.{FieldsAt};
 ghost use Rattle.thousandths.specs.Rounded.{Rounded};
-ghost use Rattle.spelling.specs.Index.{Spelling};
 ghost use Rattle.ngram_lines.specs.Gram.{GramRead, WordIs, AreSmall, numbers_of, WordsAre, GramIs};
 
-use book::survey::and_also;
-use tokens::same::same_bytes;
+use spelling::WordList;
 use tokens::scan;
 
-// How many fields the line has, the n-gram's order, and how many lines the word list has.
+// How many fields the line has, and the n-gram's order.
 #[derive(Clone, Copy)]
 pub struct Fields {
     pub count: usize,
     pub order: usize,
-    pub words: usize,
-}
-
-// A word by the word list: its number, 0 where it has none.
-#[derive(Clone, Copy)]
-pub struct Word {
-    pub number: usize,
-    pub known: bool,
 }
 
 // The numbers of an n-gram's words, 0 for each that it does not have, and whether all of them are known.
@@ -63,13 +53,10 @@ fn has_word(text: &[u8], places: &[usize], at: Fields, word: &[u8]) -> bool
     requires { GramRead text.now places.now at.count at.order }
     ensures { (fields : List (List ℕ)) → FieldsAt text.now places.now at.count fields → result ≡ holds word.now (ngram_of at.order fields) }
 {
-    let order = at.order;
-    let mut k = 1;
-    while k <= order {
-        if same_bytes(scan::field(text, places, k), word) {
+    for k in 1..=at.order {
+        if scan::field(text, places, k) == word {
             return true;
         }
-        k += 1;
     }
     false
 }
@@ -89,69 +76,51 @@ fn is_passed_over(text: &[u8], places: &[usize], at: Fields) -> bool
     if has_word(text, places, at, b"<unk>") {
         return true;
     }
-    same_bytes(scan::field(text, places, order), b"<s>")
+    scan::field(text, places, order) == b"<s>".as_slice()
 }
 
 // ---- words and values
 
-// The number of a word: `<s>` is 0, and every other word is looked up.
-fn find(list: &[u8], index: &[u16], starts: &[usize], words: usize, word: &[u8]) -> Word
-    requires { Spelling list.now index.now starts.now words }
-    ensures { WordIs list.now word.now result }
+// The number of a word, where it has one: `<s>` is 0, and every other word is looked up.
+fn find(words: &WordList, word: &[u8]) -> Option<usize>
+    ensures { WordIs words.now.list.now word.now result }
 {
-    if same_bytes(word, b"<s>") {
-        return Word {
-            number: 0,
-            known: true,
-        };
+    if word == b"<s>".as_slice() {
+        return Some(0);
     }
-    let number = spelling::find_word(list, index, starts, words, word);
-    Word {
-        number,
-        known: 0 < number,
-    }
+    words.number_of(word)
 }
 
 // The numbers of its words.
-fn words_of(
-    text: &[u8],
-    places: &[usize],
-    at: Fields,
-    list: &[u8],
-    index: &[u16],
-    starts: &[usize],
-) -> Words
-    requires gram_read { GramRead text.now places.now at.count at.order }
-    requires spelling { Spelling list.now index.now starts.now at.words }
-    ensures { (fields : List (List ℕ)) (top : ℕ) → FieldsAt text.now places.now at.count fields → is_gram_line top at.order fields ≡ true → WordsAre list.now (ngram_of at.order fields).words at.order result }
+fn words_of(text: &[u8], places: &[usize], at: Fields, words: &WordList) -> Words
+    requires { GramRead text.now places.now at.count at.order }
+    ensures { (fields : List (List ℕ)) (top : ℕ) → FieldsAt text.now places.now at.count fields → is_gram_line top at.order fields ≡ true → WordsAre words.now.list.now (ngram_of at.order fields).words at.order result }
 {
     let order = at.order;
-    let words = at.words;
-    let first = find(list, index, starts, words, scan::field(text, places, 1));
+    let first = find(words, scan::field(text, places, 1));
     if order == 1 {
         return Words {
-            first: first.number,
+            first: first.unwrap_or(0),
             second: 0,
             third: 0,
-            known: first.known,
+            known: first.is_some(),
         };
     }
-    let second = find(list, index, starts, words, scan::field(text, places, 2));
-    let known = and_also(first.known, second.known);
+    let second = find(words, scan::field(text, places, 2));
     if order == 2 {
         return Words {
-            first: first.number,
-            second: second.number,
+            first: first.unwrap_or(0),
+            second: second.unwrap_or(0),
             third: 0,
-            known,
+            known: first.is_some() & second.is_some(),
         };
     }
-    let third = find(list, index, starts, words, scan::field(text, places, 3));
+    let third = find(words, scan::field(text, places, 3));
     Words {
-        first: first.number,
-        second: second.number,
-        third: third.number,
-        known: and_also(known, third.known),
+        first: first.unwrap_or(0),
+        second: second.unwrap_or(0),
+        third: third.unwrap_or(0),
+        known: first.is_some() & second.is_some() & third.is_some(),
     }
 }
 
@@ -209,15 +178,12 @@ pub fn read_gram(
     text: &[u8],
     places: &[usize],
     at: Fields,
-    list: &[u8],
-    index: &[u16],
-    starts: &[usize],
+    words: &WordList,
     row: &mut [i32],
 ) -> Gram
     requires gram_read { GramRead text.now places.now at.count at.order }
-    requires spelling { Spelling list.now index.now starts.now at.words }
     requires in_bounds { 5 ≤ length row.old }
-    ensures by_index { (fields : List (List ℕ)) (top : ℕ) → FieldsAt text.now places.now at.count fields → is_gram_line top at.order fields ≡ true → GramIs list.now (ngram_of at.order fields) row.new result }
+    ensures by_index { (fields : List (List ℕ)) (top : ℕ) → FieldsAt text.now places.now at.count fields → is_gram_line top at.order fields ≡ true → GramIs words.now.list.now (ngram_of at.order fields) row.new result }
     ensures row_len_unchanged { length row.new ≡ length row.old }
 {
     if is_passed_over(text, places, at) {
@@ -227,13 +193,13 @@ pub fn read_gram(
     if outline::lines::is_unknown(text, places, at.count, at.order) {
         return Gram::Unknown(score);
     }
-    let words = words_of(text, places, at, list, index, starts);
+    let numbers = words_of(text, places, at, words);
     let weight = weight_of(text, places, at);
-    let ranged = and_also(lines::is_score(score), lines::is_score(weight));
-    let size = put_row(row, at.order, words, score, weight);
+    let ranged = lines::is_score(score) & lines::is_score(weight);
+    let size = put_row(row, at.order, numbers, score, weight);
     Gram::Line(Row {
         size,
-        known: words.known,
+        known: numbers.known,
         ranged,
     })
 }

@@ -7,15 +7,16 @@ use native.Mathlib.Omega.{arith}
 use lib.Dec.{eqb}
 use lib.ListN.{length, get_or, length-append, get_or-append}
 use lib.Seq.{get_or_at}
-use borrow.Author.Tests.{eqb-true, eqb-false, eq-eqb, ne_eqb}
+use borrow.Author.Tests.{eqb-true, eqb-false, ne_eqb}
+use Rattle.std.specs.Option.{is_none}
 use Rattle.laws.specs.Index.{latest}
 use Rattle.laws.specs.Lists.{any, none_twice}
 use Rattle.laws.proofs.Lists.{none_twice_at}
 use Rattle.laws.proofs.Tests.{by_test}
 use Rattle.meaning.specs.Questions.{◌unless◌, ◌orelse◌}
 use Rattle.ngrams.specs.declared.Key.{Key}
-use Rattle.ngrams.specs.Parts.{records_most, records_end, KeptRecords, KeptBelow}
-use Rattle.ngrams.specs.Grams.{key_at, gram_at, holds, same_key, firsts, keys_in, grams_in, earlier_alike, same_triple, repeat_refusal, with_repeat, words_of, key_of, Indexed, Listing}
+use Rattle.ngrams.specs.Parts.{records_most, records_end, record_named, KeptRecords, KeptBelow}
+use Rattle.ngrams.specs.Grams.{key_at, gram_at, holds, same_key, firsts, keys_in, grams_in, latest_with, earlier_alike, same_triple, repeat_refusal, with_repeat, words_of, key_of, Indexed, Listing}
 use Rattle.ngrams.proofs.Keys.{same_is, same_sym}
 use Rattle.ngrams.proofs.Index.{kept_key, kept_gram, below_key, below_gram, below_indexed}
 
@@ -94,18 +95,21 @@ with_repeat_lem true false three false found e = rw (e, and-false three)
 with_repeat_lem true false true true found e = rw e
 with_repeat_lem true false false true found e = rw e
 
--- 6 stands
-pub six_stands : (found alike order : ℕ) → found ≡ 6 → found ≡ with_repeat found alike order
-six_stands found alike order e = rw (eq-eqb found 6 e) e
-
 module _ (index : List ℕ) where
   abbrev alike : ℕ → Bool
   alike i = any (λ a. same_key a (key_at index i)) (keys_in index i)
 
-  alike_is : (i : ℕ) → not (alike i) ≡ eqb (earlier_alike index i) 0
-  unfolding earlier_alike holds
-  alike_is i = ap not (any_latest (key_at index) (λ a. same_key a (key_at index i)) (holds index (key_at index i)) (λ k. same_sym (key_at index k) (key_at index i)) i) ∙ not_not (eqb (earlier_alike index i) 0)
+  alike_is : (i : ℕ) → not (alike i) ≡ is_none (earlier_alike index i)
+  unfolding latest_with holds
+  alike_is i =
+      let found = latest (holds index (key_at index i)) i in
+      ap not (any_latest (key_at index) (λ a. same_key a (key_at index i)) (holds index (key_at index i)) (λ k. same_sym (key_at index k) (key_at index i)) i)
+      ∙ not_not (eqb found 0) ∙ by found
     where
+      by : (n : ℕ) → eqb n 0 ≡ is_none (record_named n)
+      by zero = refl
+      by (suc k) = ne_eqb (suc k) 0 (λ e. omega arith)
+
       not_not : (b : Bool) → not (not b) ≡ b
       not_not true = refl
       not_not false = refl

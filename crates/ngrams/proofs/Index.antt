@@ -1,22 +1,24 @@
 -- The index: a record of the words sought lies in their bucket, so the walk of one chain is enough; and how the index starts and grows inside the one list.
-use Prim.Native.Nat.{ℕ, ◌+◌, ◌-◌, ◌≤◌, ◌<◌}
+use Prim.Native.Nat.{ℕ, suc, ◌+◌, ◌-◌, ◌≤◌, ◌<◌}
 use mathlib.Core.Path.{◌≡◌, sym, ap, ◌∙◌}
 use mathlib.Core.Bool.{true, false}
-use mathlib.Core.List.{List}
+use mathlib.Core.List.{List, ◌++◌}
 use native.Mathlib.Omega.{arith}
-use lib.Dec.{eqb, leb, ltb}
-use lib.ListN.{length, get_or, set, length-set}
-use lib.Seq.{get_or-set_same, get_or-set_other}
-use borrow.Author.Tests.{eqb-true, eqb-false, leb-true, ltb-true, le-leb, lt-ltb}
+use lib.Dec.{leb, ltb}
+use lib.ListN.{length, get_or, drop, set, length-append, length-drop, length-set, get_or-append}
+use lib.Seq.{get_or-drop, get_or-set_same, get_or-set_other}
+use borrow.Author.Tests.{leb-true, ltb-true, le-leb, lt-ltb}
+use Rattle.std.proofs.Common.{Option, Some, None}
+use Rattle.std.proofs.lemmas.List.{get_or-append_right}
 use Rattle.laws.specs.Index.{Walk}
-use Rattle.laws.proofs.Tests.{by_test, both}
-use Rattle.laws.proofs.Index.{chained_none, chained_more, chained_same, walk_start, walk_step, walk_less}
+use Rattle.laws.proofs.Tests.{both}
+use Rattle.laws.proofs.Index.{chained_none, chained_more, chained_same, walk_start, walk_step, walk_less, walk_hit, walk_out}
 use Rattle.halves.proofs.Halves.{signed_same}
 use Rattle.ngrams.specs.declared.Key.{Key}
-use Rattle.ngrams.specs.Parts.{bucket_count, records_most, record_size, records_end, record_at, head_at, link_at, KeptRecords, KeptBelow}
-use Rattle.ngrams.specs.Grams.{key_at, score_at, weight_at, gram_at, bucket_of, bucket_at, holds, Room, has_place, Indexed, Cleared, Inserted}
+use Rattle.ngrams.specs.Parts.{bucket_count, records_most, record_size, records_end, record_at, head_at, link_at, record_named, KeptFrom, KeptRecords, KeptBelow}
+use Rattle.ngrams.specs.Grams.{key_at, score_at, weight_at, gram_at, bucket_of, bucket_at, holds, latest_with, Room, has_place, Indexed, Cleared, Inserted}
 use Rattle.ngrams.proofs.Keys.{same_is}
-use Rattle.ngrams.proofs.Parts.{kept_records}
+use Rattle.ngrams.proofs.Parts.{kept_records, stored, stored_is}
 
 -- a record that has the words lies in their bucket
 holds_bucket : (index : List ℕ) (key : Key) (k : ℕ) → holds index key k ≡ true → bucket_at index k ≡ bucket_of key
@@ -77,18 +79,32 @@ room_place index n r = rw (lt-ltb n records_most (omega (arith, r.few)), le-leb 
 -- ---- the walk
 
 module _ {index : List ℕ} {n : ℕ} (x : Indexed index n) (key : Key) where
-  pub index_start : {h at : ℕ} → h ≡ bucket_of key → h < bucket_count → at ≡ get_or index h 0 → Walk (bucket_at index) (holds index key) (bucket_of key) n at
+  abbrev Search : ℕ → Type 0
+  Search at = Walk (bucket_at index) (holds index key) (bucket_of key) n at
+
+  pub index_start : {h : ℕ} {next : Option ℕ} → h ≡ bucket_of key → h < bucket_count → next ≡ record_named (get_or index h 0) → Search (stored next)
   unfolding head_at
-  index_start e l q = walk_start x.chained (holds index key) (bucket_of key) (λ k m t. holds_bucket index key k t) e l q
+  index_start e l q = walk_start x.chained (holds index key) (bucket_of key) (λ k m t. holds_bucket index key k t) e l (stored_is q)
 
-  pub index_step : {at at' : ℕ} → Walk (bucket_at index) (holds index key) (bucket_of key) n at → 0 < at → holds index key (at - 1) ≡ false
-      → at' ≡ get_or index (record_at (at - 1) + record_size) 0 → Walk (bucket_at index) (holds index key) (bucket_of key) n at'
-  unfolding link_at
-  index_step k p f q = walk_step x.chained (holds index key) (bucket_of key) (λ m l t. holds_bucket index key m t) k p f q
+  pub index_hit : {k : ℕ} → Search (suc k) → holds index key k ≡ true → Some k ≡ latest_with index key n
+  unfolding latest_with
+  index_hit {k} w t = let z : suc k - 1 ≡ k = omega arith in ap record_named (sym (walk_hit w (omega arith) (rw z t) ∙ ap suc z))
 
-pub index_less : {index : List ℕ} {n : ℕ} → Indexed index n → (at : ℕ) {at' : ℕ} → 0 < at → at ≤ n → at' ≡ get_or index (record_at (at - 1) + record_size) 0 → at' < at
-unfolding link_at
-index_less x at p l e = walk_less x.chained p l e
+  pub index_out : Search 0 → None ≡ latest_with index key n
+  unfolding latest_with
+  index_out w = ap record_named (sym (walk_out w (omega arith)))
+
+  module _ {k : ℕ} {next : Option ℕ} (w : Search (suc k)) (q : next ≡ record_named (get_or index (record_at k + record_size) 0)) where
+    -- the link of the record
+    link : stored next ≡ link_at index (suc k - 1)
+    unfolding link_at
+    link = let z : suc k - 1 ≡ k = omega arith in rw z (stored_is q)
+
+    pub index_step : holds index key k ≡ false → Search (stored next)
+    index_step f = let z : suc k - 1 ≡ k = omega arith in walk_step x.chained (holds index key) (bucket_of key) (λ m l t. holds_bucket index key m t) w (omega arith) (rw z f) link
+
+    pub index_less : stored next < suc k
+    index_less = walk_less x.chained (omega arith) w.bound link
 
 -- ---- no record, and one more
 
@@ -153,13 +169,16 @@ index_more {index} {i} {h} x r e l =
       kept = same;
     }
 
--- one head more is cleared
-pub heads_none : (index : List ℕ) (k : ℕ) → ((j : ℕ) → j < k → head_at index j ≡ 0) → k < length index → (j : ℕ) → j < k + 1 → head_at (set index k 0) j ≡ 0
-unfolding head_at
-heads_none index k h l j m =
-    by_test (eqb j k)
-    (λ e. let q : j ≡ k = eqb-true j k e in rw q (get_or-set_same index k 0 0 l))
-    (λ f. let d = eqb-false j k f in get_or-set_other index k j 0 0 d ∙ h j (omega (arith, d)))
+-- the heads, written over by zeros
+pub heads_cleared : (n : ℕ) (index heads : List ℕ) → length heads ≡ n → n ≤ length index → ((k : ℕ) → k < n → get_or heads k 0 ≡ 0)
+    → ((k : ℕ) → k < n → get_or (heads ++ drop n index) k 0 ≡ 0) × KeptFrom n index (heads ++ drop n index)
+heads_cleared n index heads e l z = (
+  λ k m. get_or-append heads (drop n index) 0 k (omega arith) ∙ z k m,
+  record {
+    size = let a = length-append heads (drop n index) in let d = length-drop n index in omega arith;
+    at = λ k m. let q : n + (k - n) ≡ k = omega arith in get_or-append_right heads (drop n index) n k 0 e m ∙ get_or-drop n index (k - n) 0 ∙ ap (λ (j : ℕ). get_or index j 0) q;
+  },
+)
 
 -- ---- the caller's part is written: the index and the records stay
 

@@ -1,40 +1,28 @@
 -- The test of a record's words, as code goes through it; that words are the same both ways; and the key of some words.
-use Prim.Native.Nat.{ℕ, ◌+◌, ◌≤◌, min}
+use Prim.Native.Nat.{ℕ, ◌≤◌, min}
 use native.Mathlib.Omega.{arith}
 use mathlib.Core.Path.{◌≡◌, refl, sym, ap, ◌∙◌}
-use mathlib.Core.Bool.{true, false, ◌&&◌, false≢true}
+use mathlib.Core.Bool.{Bool, true, ◌&&◌, and_assoc, false≢true}
 use mathlib.Core.List.{List, [], ◌∷◌}
 use lib.Dec.{eqb}
-use lib.ListN.{length, get_or, take, length-take}
-use borrow.Author.Tests.{eqb-true, eq-eqb, ne_eqb}
+use lib.ListN.{length, take, length-take}
+use borrow.Author.Tests.{eqb-true, eq-eqb}
 use Rattle.laws.specs.Lists.{eq_list}
 use Rattle.laws.proofs.Tests.{both, both_of, same_test}
 use Rattle.ngrams.specs.declared.Key.{Key}
-use Rattle.ngrams.specs.Parts.{record_at}
 use Rattle.ngrams.specs.Grams.{key_at, words_of, key_of, same_key, holds}
 
 -- ---- the test of a record
 
-module _ (index : List ℕ) (key : Key) (k : ℕ) where
-  pub holds_first : (get_or index (record_at k) 0 ≡ key.first → ⊥) → false ≡ holds index key k
-  unfolding holds same_key key_at
-  holds_first n = rw (ne_eqb (get_or index (record_at k) 0) key.first n)
-
-  module _ (a : get_or index (record_at k) 0 ≡ key.first) where
-    pub holds_second : (get_or index (record_at k + 1) 0 ≡ key.second → ⊥) → false ≡ holds index key k
-    unfolding holds same_key key_at
-    holds_second n = rw (eq-eqb (get_or index (record_at k) 0) key.first a, ne_eqb (get_or index (record_at k + 1) 0) key.second n)
-
-    module _ (b : get_or index (record_at k + 1) 0 ≡ key.second) where
-      pub holds_third : (get_or index (record_at k + 2) 0 ≡ key.third → ⊥) → false ≡ holds index key k
-      unfolding holds same_key key_at
-      holds_third n =
-          rw (eq-eqb (get_or index (record_at k) 0) key.first a, eq-eqb (get_or index (record_at k + 1) 0) key.second b, ne_eqb (get_or index (record_at k + 2) 0) key.third n)
-
-      pub holds_order : get_or index (record_at k + 2) 0 ≡ key.third → eqb (get_or index (record_at k + 3) 0) key.order ≡ holds index key k
-      unfolding holds same_key key_at
-      holds_order c =
-          rw (eq-eqb (get_or index (record_at k) 0) key.first a, eq-eqb (get_or index (record_at k + 1) 0) key.second b, eq-eqb (get_or index (record_at k + 2) 0) key.third c)
+-- its key, compared by `==`
+pub holds_is : (index : List ℕ) (key : Key) (k : ℕ) {found : Key} {same : Bool} → found ≡ key_at index k
+    → same ≡ (eqb found.first key.first && (eqb found.second key.second && (eqb found.third key.third && eqb found.order key.order))) → holds index key k ≡ same
+unfolding holds same_key
+holds_is index key k {found} e q =
+    ap (same_key key) (sym e)
+    ∙ and_assoc (eqb found.first key.first && eqb found.second key.second) (eqb found.third key.third) (eqb found.order key.order)
+    ∙ and_assoc (eqb found.first key.first) (eqb found.second key.second) (eqb found.third key.third && eqb found.order key.order)
+    ∙ sym q
 
 -- ---- two keys
 

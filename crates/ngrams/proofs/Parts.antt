@@ -1,22 +1,24 @@
--- What a writer leaves alone: a store before `from` keeps what stands from there on, and what is kept twice is kept.
-use Prim.Native.Nat.{ℕ, ◌+◌, ◌≤◌, ◌<◌}
-use mathlib.Core.Path.{refl, ◌∙◌}
+-- What a writer leaves alone: what is kept twice is kept, and a store behind `to` keeps what stands before it; and a link, as the record that it names.
+use Prim.Native.Nat.{ℕ, zero, suc, ◌+◌, ◌≤◌}
+use mathlib.Core.Path.{◌≡◌, refl, ap, ◌∙◌}
 use mathlib.Core.List.{List}
 use native.Mathlib.Omega.{arith}
-use lib.ListN.{set, length-set}
-use lib.Seq.{get_or-set_other}
+use Rattle.std.proofs.Common.{Option, Some, None}
 use Rattle.laws.specs.Lists.{set_from}
 use Rattle.laws.proofs.Fields.{from_long, from_far}
-use Rattle.ngrams.specs.Parts.{bucket_count, record_at, KeptFrom, KeptRecords, KeptBelow}
+use Rattle.ngrams.specs.Parts.{bucket_count, record_at, record_named, KeptFrom, KeptRecords, KeptBelow}
 
-pub kept_all : (from : ℕ) (xs : List ℕ) → KeptFrom from xs xs
-kept_all from xs = record { size = refl; at = λ k l. refl }
+-- what is stored of a record: 1 + its number, and 0 for none
+abbrev pub stored : Option ℕ → ℕ
+stored None = 0
+stored (Some k) = suc k
 
-pub kept_then : {from to : ℕ} {xs ys zs : List ℕ} → from ≤ to → KeptFrom from xs ys → KeptFrom to ys zs → KeptFrom to xs zs
-kept_then l a b = record { size = b.size ∙ a.size; at = λ k m. b.at k m ∙ a.at k (omega arith) }
-
-pub kept_set : {from : ℕ} (xs : List ℕ) (k : ℕ) (v : ℕ) → k < from → KeptFrom from xs (set xs k v)
-kept_set xs k v l = record { size = length-set xs k v; at = λ j m. get_or-set_other xs k j v 0 (omega arith) }
+pub stored_is : {o : Option ℕ} {n : ℕ} → o ≡ record_named n → stored o ≡ n
+stored_is {n} e = ap stored e ∙ by n
+  where
+    by : (n : ℕ) → stored (record_named n) ≡ n
+    by zero = refl
+    by (suc k) = refl
 
 -- what stands from the records on
 pub kept_records : {xs ys : List ℕ} → KeptFrom bucket_count xs ys → KeptRecords xs ys

@@ -1,13 +1,14 @@
 -- The n-grams of the language model as records of the one list, and the index by which they are found.
-use Rattle.std.specs.Prelude.{ℕ, zero, suc, ◌+◌, ◌*◌, ◌/◌, ◌%◌, ◌≤◌, ◌<◌, ◌≡◌, Bool, true, ◌&&◌, cond, List, [], ◌∷◌, ◌++◌, eqb, leb, ltb, ℤ, length, get_or, take}
+use Rattle.std.specs.Prelude.{ℕ, zero, suc, ◌+◌, ◌*◌, ◌/◌, ◌%◌, ◌≤◌, ◌<◌, ◌≡◌, Bool, true, ◌&&◌, cond, Option, Some, None, is_none, List, [], ◌∷◌, ◌++◌, eqb, leb, ltb, ℤ, length, get_or, take}
 use Rattle.laws.specs.Index.{latest, Chained}
 use Rattle.laws.specs.Lists.{none_twice, set_from}
 use Rattle.meaning.specs.Bounds.{word_span}
-use Rattle.meaning.specs.Questions.{◌unless◌, ◌orelse◌}
+use Rattle.meaning.specs.Questions.{◌unless◌, ◌orelse◌, number}
+use Rattle.meaning.specs.declared.Refusal.{Refusal}
 use Rattle.meaning.specs.Book.{Gram, number_at, natural_at, order_of}
 use Rattle.halves.specs.Halves.{halves_of, shifted, signed_at}
 use Rattle.ngrams.specs.declared.Key.{Key}
-use Rattle.ngrams.specs.Parts.{bucket_count, records_most, record_at, head_at, link_at, KeptFrom, KeptRecords}
+use Rattle.ngrams.specs.Parts.{bucket_count, records_most, record_at, head_at, link_at, record_named, KeptFrom, KeptRecords}
 
 -- ---- the records
 
@@ -109,9 +110,13 @@ pub record Inserted (old new : List ℕ) (i : ℕ) : Type 0 where
 
 -- ---- what the calls answer
 
--- 1 + the latest record before record i that has its words, or 0
-unfoldable pub earlier_alike : List ℕ → ℕ → ℕ
-earlier_alike index i = latest (holds index (key_at index i)) i
+-- the latest of the first n records that has the words of the key, if one has
+unfoldable pub latest_with : List ℕ → Key → ℕ → Option ℕ
+latest_with index key n = record_named (latest (holds index key) n)
+
+-- the latest record before record i that has its words, if one has
+abbrev pub earlier_alike : List ℕ → ℕ → Option ℕ
+earlier_alike index i = latest_with index (key_at index i) i
 
 -- both are triples, and the same one
 abbrev pub same_triple : Key → Key → Bool
@@ -121,13 +126,18 @@ same_triple a b = eqb a.order 3 && same_key a b
 unfoldable pub repeat_refusal : List ℕ → ℕ → ℕ
 repeat_refusal index n = 6 unless none_twice same_triple (keys_in index n) orelse 20 unless none_twice same_key (keys_in index n)
 
--- one record more, of that order: what those before it answered, and whether one of them has its words (1 + its number, or 0)
-abbrev pub with_repeat : ℕ → ℕ → ℕ → ℕ
-with_repeat found alike order = cond (eqb found 6) 6 (cond (eqb alike 0) found (cond (eqb order 3) 6 20))
+-- one record more, of that order: what those before it answered, and which of them has its words
+abbrev pub with_repeat : ℕ → Option ℕ → ℕ → ℕ
+with_repeat found alike order = cond (eqb found 6) 6 (cond (is_none alike) found (cond (eqb order 3) 6 20))
+
+-- the papers' number of a refusal, 0 for none
+abbrev pub number_or0 : Option Refusal → ℕ
+number_or0 None = 0
+number_or0 (Some refusal) = number refusal
 
 -- the answer r to both questions, the list before and after, which is left as the records' index
-pub record Compared (old new : List ℕ) (n : ℕ) (r : ℕ) : Type 0 where
-  pub answer : r ≡ repeat_refusal old n
+pub record Compared (old new : List ℕ) (n : ℕ) (r : Option Refusal) : Type 0 where
+  pub answer : number_or0 r ≡ repeat_refusal old n
   pub indexed : Indexed new n
   pub kept : KeptRecords old new
 

@@ -1,5 +1,5 @@
 -- One list for what is known of a book, in named parts: the heads of the buckets, and the records, each with its link behind it. What stands behind them is the caller's.
-use Rattle.std.specs.Prelude.{ℕ, ◌+◌, ◌*◌, ◌≤◌, ◌<◌, ◌≡◌, List, length, get_or}
+use Rattle.std.specs.Prelude.{ℕ, zero, suc, ◌+◌, ◌*◌, ◌≤◌, ◌<◌, ◌≡◌, Option, Some, None, List, length, get_or}
 use Rattle.meaning.specs.Book.{grams_most}
 
 -- how many buckets there are
@@ -35,6 +35,11 @@ head_at index h = get_or index h 0
 
 unfoldable pub link_at : List ℕ → ℕ → ℕ
 link_at index k = get_or index (record_at k + record_size) 0
+
+-- the record that a head or a link names
+abbrev pub record_named : ℕ → Option ℕ
+record_named zero = None
+record_named (suc k) = Some k
 
 -- what a writer leaves alone: the length, and all that stands from `from` on
 pub record KeptFrom (from : ℕ) (old new : List ℕ) : Type 0 where

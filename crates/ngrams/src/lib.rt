@@ -4,12 +4,12 @@
 // link is 1 + a record's number, or 0.
 #![tactic(auto)]
 
-ghost use Rattle.std.specs.Prelude.{◌≡◌, ◌+◌, ◌≤◌, ◌<◌, length};
-ghost use Rattle.laws.specs.Index.{latest};
-ghost use Rattle.ngrams.specs.Parts.{bucket_count, record_at};
-ghost use Rattle.ngrams.specs.Grams.{key_at, score_at, weight_at, word_or0, put_record, holds, bucket_of, Room, has_place, Indexed, Cleared, Inserted, earlier_alike, with_repeat, Compared};
+ghost use Rattle.std.specs.Prelude.{◌≡◌, [], ◌∷◌, ◌+◌, ◌≤◌, ◌<◌, length, get_or};
+ghost use Rattle.ngrams.specs.Parts.{bucket_count, record_at, record_named};
+ghost use Rattle.ngrams.specs.Grams.{key_at, key_of, score_at, weight_at, word_or0, put_record, bucket_of, Room, has_place, Indexed, Cleared, Inserted, latest_with, earlier_alike, number_or0, with_repeat, Compared};
 
 use lines::WORD_SPAN;
+use meaning::Refusal;
 
 // How many buckets there are, how many records there may be, and how many numbers a record has.
 const BUCKETS: usize = 16384;
@@ -27,7 +27,7 @@ pub const RECORDS: usize = BUCKETS;
 pub const RECORDS_END: usize = RECORDS + RECORD_STEP * RECORDS_MOST;
 
 // The words of an n-gram in their order, 0 for each that it does not have, and how many it has: 3 for a triple, 2 for a pair, 1 for a word.
-#[derive(Clone, Copy)]
+#[derive(Clone, Copy, PartialEq, Eq)]
 pub struct Key {
     pub first: usize,
     pub second: usize,
@@ -35,9 +35,60 @@ pub struct Key {
     pub order: usize,
 }
 
+impl Key {
+    #[tactic(auto, unfolding(crate::specs::Grams::key_of))]
+    pub fn triple(v: usize, w: usize, y: usize) -> Key
+        ensures { result ≡ key_of (v ∷ w ∷ y ∷ []) }
+    {
+        Key {
+            first: v,
+            second: w,
+            third: y,
+            order: 3,
+        }
+    }
+
+    #[tactic(auto, unfolding(crate::specs::Grams::key_of))]
+    pub fn pair(w: usize, y: usize) -> Key
+        ensures { result ≡ key_of (w ∷ y ∷ []) }
+    {
+        Key {
+            first: w,
+            second: y,
+            third: 0,
+            order: 2,
+        }
+    }
+
+    #[tactic(auto, unfolding(crate::specs::Grams::key_of))]
+    pub fn word(y: usize) -> Key
+        ensures { result ≡ key_of (y ∷ []) }
+    {
+        Key {
+            first: y,
+            second: 0,
+            third: 0,
+            order: 1,
+        }
+    }
+
+    // The bucket of a key.
+    #[tactic(auto, unfolding(crate::specs::Grams::bucket_of))]
+    fn bucket(self) -> usize
+        ensures { (result ≡ bucket_of self) × (result < bucket_count) }
+    {
+        ((self.first % WORD_SPAN) * 40503
+            + (self.second % WORD_SPAN) * 60493
+            + (self.third % WORD_SPAN) * 25717)
+            / 16
+            % BUCKETS
+    }
+}
+
 // ---- the parts of the list
 
 // The words of record k.
+#[tactic(auto, unfolding(crate::specs::Grams::key_at))]
 fn key_at(index: &[u16], k: usize) -> Key
     requires { record_at (k + 1) ≤ length index.now }
     ensures { result ≡ key_at index.now k }
@@ -51,47 +102,28 @@ fn key_at(index: &[u16], k: usize) -> Key
     }
 }
 
-// Has record k the words of the key? They are read one by one, as far as they agree.
-fn is_key(index: &[u16], k: usize, key: Key) -> bool
-    requires { record_at (k + 1) ≤ length index.now }
-    ensures { result ≡ holds index.now key k }
+// The record that the head or the link at this place of the list names, or none.
+fn link_at(index: &[u16], at: usize) -> Option<usize>
+    requires { at < length index.now }
+    ensures { result ≡ record_named (get_or index.now at 0) }
 {
-    let at = RECORDS + RECORD_STEP * k;
-    if halves::number_at(index, at) == key.first {
-        if halves::number_at(index, at + 1) == key.second {
-            if halves::number_at(index, at + 2) == key.third {
-                return halves::number_at(index, at + 3) == key.order;
-            }
-        }
-    }
-    false
+    halves::number_at(index, at).checked_sub(1)
 }
 
-// The bucket of a key.
-fn bucket(key: Key) -> usize
-    ensures { (result ≡ bucket_of key) × (result < bucket_count) }
-{
-    ((key.first % WORD_SPAN) * 40503
-        + (key.second % WORD_SPAN) * 60493
-        + (key.third % WORD_SPAN) * 25717)
-        / 16
-        % BUCKETS
-}
-
-// Walks the chain of the key's bucket: 1 + the latest of the first `count` records that has its words, or 0.
-pub fn find(index: &[u16], count: usize, key: Key) -> usize
+// Walks the chain of the key's bucket: the latest of the first `count` records that has its words, or none.
+pub fn find(index: &[u16], count: usize, key: Key) -> Option<usize>
     requires { Indexed index.now count }
-    ensures { result ≡ latest (holds index.now key) count }
+    ensures { result ≡ latest_with index.now key count }
 {
-    let mut at = halves::number_at(index, bucket(key));
-    while at > 0 {
-        let k = at - 1;
-        if is_key(index, k, key) {
-            return at;
+    let mut next = link_at(index, key.bucket());
+    // No iterator: the chain goes from link to link, as they stand in the list.
+    while let Some(k) = next {
+        if key_at(index, k) == key {
+            return next;
         }
-        at = halves::number_at(index, RECORDS + RECORD_STEP * k + RECORD_SIZE);
+        next = link_at(index, RECORDS + RECORD_STEP * k + RECORD_SIZE);
     }
-    0
+    None
 }
 
 // The score of record k.
@@ -111,25 +143,21 @@ pub fn weight_at(index: &[u16], k: usize) -> i64
 }
 
 // Is there a place for record n? A book has no more than RECORDS_MOST (question 5), and the list may be shorter than for so many.
+#[tactic(auto, unfolding(crate::specs::Grams::has_place))]
 pub fn has_place(index: &[u16], n: usize) -> bool
     ensures { result ≡ has_place index.now n }
 {
-    if RECORDS_MOST <= n {
-        return false;
-    }
-    RECORDS + RECORD_STEP * (n + 1) <= index.len()
+    n < RECORDS_MOST && RECORDS + RECORD_STEP * (n + 1) <= index.len()
 }
 
 // ---- the writers: each says from where on the list is as it was
 
 // Word j, from 1 on, of a line that lists n words; 0 where it lists fewer.
+#[tactic(auto, unfolding(crate::specs::Grams::word_or0))]
 fn word_or_0(line: &[i32], n: usize, j: usize) -> u16
     ensures { result ≡ word_or0 line.now n j }
 {
-    if j <= n {
-        return lines::word_at(line, j);
-    }
-    0
+    if j <= n { lines::word_at(line, j) } else { 0 }
 }
 
 // The record of a T, U or D line, put as record k.
@@ -152,11 +180,7 @@ fn clear(index: &mut [u16])
     requires { bucket_count ≤ length index.old }
     ensures { Cleared index.old index.new }
 {
-    let mut k = 0;
-    while k < BUCKETS {
-        index[k] = 0;
-        k += 1;
-    }
+    index[..BUCKETS].fill(0);
 }
 
 // Puts record i before the others of its bucket.
@@ -165,7 +189,7 @@ fn insert(index: &mut [u16], i: usize)
     requires room { Room index.old (i + 1) }
     ensures { Inserted index.old index.new i }
 {
-    let h = bucket(key_at(index, i));
+    let h = key_at(index, i).bucket();
     index[RECORDS + RECORD_STEP * i + RECORD_SIZE] = index[h];
     index[h] = (i + 1) as u16;
 }
@@ -173,34 +197,36 @@ fn insert(index: &mut [u16], i: usize)
 // ---- questions 6 and 20
 
 // What the records up to record i answer to them: `found` is what those before it answered. 6 stands, since it is asked first.
-fn with_repeat(index: &[u16], i: usize, found: usize) -> usize
+fn with_repeat(index: &[u16], i: usize, found: Option<Refusal>) -> Option<Refusal>
     requires indexed { Indexed index.now i }
     requires room { Room index.now (i + 1) }
-    ensures { result ≡ with_repeat found (earlier_alike index.now i) (key_at index.now i).order }
+    ensures { number_or0 result ≡ with_repeat (number_or0 found) (earlier_alike index.now i) (key_at index.now i).order }
 {
-    if found == 6 {
+    if let Some(Refusal::RepeatedTriple) = found {
         return found;
     }
     let key = key_at(index, i);
-    if find(index, i, key) == 0 {
+    if find(index, i, key).is_none() {
         return found;
     }
-    if key.order == 3 { 6 } else { 20 }
+    if key.order == 3 {
+        Some(Refusal::RepeatedTriple)
+    } else {
+        Some(Refusal::RepeatedShorter)
+    }
 }
 
-// Do no two of the first `count` records have the same words? 6 where two triples have, else 20 where two pairs or two words have, or 0. The list is left as
-// the records' index. The records stay.
-pub fn index_all(index: &mut [u16], count: usize) -> usize
+// Do no two of the first `count` records have the same words? Refusal 6 where two triples have, else 20 where two pairs or two words have. The list is left
+// as the records' index. The records stay.
+pub fn index_all(index: &mut [u16], count: usize) -> Option<Refusal>
     requires { Room index.old count }
     ensures { Compared index.old index.new count result }
 {
     clear(index);
-    let mut found = 0;
-    let mut i = 0;
-    while i < count {
+    let mut found = None;
+    for i in 0..count {
         found = with_repeat(index, i, found);
         insert(index, i);
-        i += 1;
     }
     found
 }

@@ -6,8 +6,9 @@ use mathlib.Core.Bool.{true, false≢true}
 use mathlib.Core.List.{List, [], ◌∷◌, Memᴰ}
 use lib.IntN.{ℤ}
 use lib.ListN.{length, get_or}
+use Rattle.std.specs.Prelude.{Result, Ok, Err}
 use Rattle.laws.specs.Integers.{Within, nat_of}
-use Rattle.meaning.specs.Bounds.{score_most, penalty_most, triple_bound}
+use Rattle.meaning.specs.Bounds.{score_most, triple_bound}
 use Rattle.meaning.specs.Questions.{◌orelse◌, number}
 use Rattle.meaning.specs.Book.{in_list, Gram, number_at, natural_at, is_one_bFirst, book_refusal, book_of, book_of_lines, loaded_lines}
 use Rattle.meaning.specs.Direction.{word_count, direction_refusal}
@@ -27,8 +28,6 @@ use Rattle.derivation.specs.declared.Setup.{Setup}
 use Rattle.derivation.specs.Model.{Model, model_score}
 use Rattle.derivation.specs.Prepared.{Prepared}
 use Rattle.opening.specs.declared.Counts.{Counts}
-use Rattle.opening.specs.declared.Start.{Start}
-use Rattle.opening.specs.declared.Start.TheVariants.{Ready, Refused}
 use Rattle.opening.specs.Opening.{SetupOf, Open, BegunAs, StartOf}
 
 -- ════ the B line
@@ -67,13 +66,6 @@ module _ (loaded : List ℤ) (passed : book_refusal loaded ≡ 0) where
   pub unseen_read : (book_of loaded).unseen ≡ number_at loaded 3
   unfolding book_of book_of_lines
   unseen_read = first_number 3 (omega arith)
-
-  -- and in their ranges
-  pub eta_small : Within penalty_most (number_at loaded 2)
-  eta_small = subst (Within penalty_most) eta_read (loaded_ranged loaded passed).eta_within
-
-  pub unseen_small : Within score_most (number_at loaded 3)
-  unseen_small = subst (Within score_most) unseen_read (loaded_ranged loaded passed).unseen_within
 
   -- the numbers that code reads there
   pub setup_is : (n : ℕ) (counts : Counts) (limit : ℕ) (eta unseen : ℤ) → limit ≡ natural_at loaded 1 → eta ≡ number_at loaded 2 → unseen ≡ number_at loaded 3
@@ -152,6 +144,6 @@ pub direction_refuses : (k m : ℕ) (refusal : Refusal) → k ≡ 0 → m ≡ nu
 direction_refuses k m refusal p e = ap (λ (j : ℕ). j orelse m) p ∙ e
 
 -- after a book that passed, what 9 and 10 answer is the answer
-pub begun_starts : (loaded : List ℤ) (direction : List ℕ) (index : List ℕ) (r : Start) → book_refusal loaded ≡ 0 → BegunAs loaded direction index r → StartOf loaded direction index r
-begun_starts loaded direction index (Ready t) p b = b
-begun_starts loaded direction index (Refused refusal) p b = direction_refuses (book_refusal loaded) (direction_refusal direction) refusal p b
+pub begun_starts : (loaded : List ℤ) (direction : List ℕ) (index : List ℕ) (r : Result Setup Refusal) → book_refusal loaded ≡ 0 → BegunAs loaded direction index r → StartOf loaded direction index r
+begun_starts loaded direction index (Ok t) p b = b
+begun_starts loaded direction index (Err refusal) p b = direction_refuses (book_refusal loaded) (direction_refusal direction) refusal p b

@@ -1,17 +1,14 @@
 -- What is known of a loaded book once it is open, and what is ready once a direction is begun.
-use Rattle.std.specs.Prelude.{ℕ, ◌≡◌, List, ℤ}
+use Rattle.std.specs.Prelude.{ℕ, ◌≡◌, List, ℤ, Result, Ok, Err}
 use Rattle.meaning.specs.Questions.{◌orelse◌, number}
 use Rattle.meaning.specs.Book.{Book, book_refusal, book_of}
 use Rattle.meaning.specs.Direction.{direction_refusal}
+use Rattle.meaning.specs.declared.Refusal.{Refusal}
 use Rattle.ngrams.specs.Grams.{grams_in, Listing}
 use Rattle.book.specs.Entries.{EntriesAt}
 use Rattle.derivation.specs.declared.Setup.{Setup}
 use Rattle.derivation.specs.Prepared.{Prepared}
 use Rattle.opening.specs.declared.Counts.{Counts}
-use Rattle.opening.specs.declared.Opened.{Opened}
-use Rattle.opening.specs.declared.Opened.TheVariants.{Book as Opens, Refused as BookRefused}
-use Rattle.opening.specs.declared.Start.{Start}
-use Rattle.opening.specs.declared.Start.TheVariants.{Ready, Refused}
 
 -- ════ questions 2 to 6, 21 and 20
 
@@ -23,9 +20,9 @@ pub record Open (loaded : List ℤ) (index : List ℕ) (counts : Counts) : Type 
   pub entries_at : EntriesAt loaded index counts.phrases
 
 -- "Any call that takes a loaded book ..: 2 to 6."
-abbrev pub OpenedAs : List ℤ → List ℕ → Opened → Type 0
-OpenedAs loaded index (Opens counts) = Open loaded index counts
-OpenedAs loaded index (BookRefused refusal) = book_refusal loaded ≡ number refusal
+abbrev pub OpenedAs : List ℤ → List ℕ → Result Counts Refusal → Type 0
+OpenedAs loaded index (Ok counts) = Open loaded index counts
+OpenedAs loaded index (Err refusal) = book_refusal loaded ≡ number refusal
 
 -- ════ questions 9 and 10
 
@@ -40,12 +37,12 @@ pub record SetupOf (book : Book) (n : ℕ) (counts : Counts) (t : Setup) : Type 
   pub shorter_are : t.model.shorter ≡ counts.shorter
 
 -- "A direction as numbers: 9, 10." Where they pass, the list and the numbers are those of the book and the direction
-abbrev pub BegunAs : List ℤ → List ℕ → List ℕ → Start → Type 0
-BegunAs loaded direction index (Ready t) = Prepared loaded direction index t
-BegunAs loaded direction index (Refused refusal) = direction_refusal direction ≡ number refusal
+abbrev pub BegunAs : List ℤ → List ℕ → List ℕ → Result Setup Refusal → Type 0
+BegunAs loaded direction index (Ok t) = Prepared loaded direction index t
+BegunAs loaded direction index (Err refusal) = direction_refusal direction ≡ number refusal
 
 -- ════ both
 
-abbrev pub StartOf : List ℤ → List ℕ → List ℕ → Start → Type 0
-StartOf loaded direction index (Ready t) = Prepared loaded direction index t
-StartOf loaded direction index (Refused refusal) = (book_refusal loaded orelse direction_refusal direction) ≡ number refusal
+abbrev pub StartOf : List ℤ → List ℕ → List ℕ → Result Setup Refusal → Type 0
+StartOf loaded direction index (Ok t) = Prepared loaded direction index t
+StartOf loaded direction index (Err refusal) = (book_refusal loaded orelse direction_refusal direction) ≡ number refusal

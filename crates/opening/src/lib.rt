@@ -11,8 +11,7 @@ use book::entries;
 use derivation::Setup;
 use language::LanguageModel;
 use loading::load;
-use loading::load::Loaded;
-use meaning::{Checked, Refusal};
+use meaning::Refusal;
 
 // How many entries a book has, how many n-grams, and how many of those are pairs and words.
 #[derive(Clone, Copy)]
@@ -22,37 +21,19 @@ pub struct Counts {
     pub shorter: usize,
 }
 
-// What a book answers to questions 2 to 6, 21 and 20: its counts, or the refusal.
-#[derive(Clone, Copy)]
-pub enum Opened {
-    Book(Counts),
-    Refused(Refusal),
-}
-
-// What a direction answers to questions 9 and 10: the numbers that a search or a score works on, or the refusal.
-#[derive(Clone, Copy)]
-pub enum Start {
-    Ready(Setup),
-    Refused(Refusal),
-}
-
 // Questions 2 to 6, 21 and 20 of a loaded book. Where they pass, `index` holds what is known of it: its n-grams as indexed records, and
 // the places of its entries; after a refusal, what it holds is not said.
-pub fn open_book(book: &[i32], index: &mut [u16]) -> Opened
+pub fn open_book(book: &[i32], index: &mut [u16]) -> Result<Counts, Refusal>
     requires { index_size ≤ length index.old }
     ensures { OpenedAs book.now index.new result }
 {
-    match load::load(book, index) {
-        Loaded::Book(grams) => {
-            let phrases = entries::find_entries(book, index);
-            Opened::Book(Counts {
-                phrases,
-                grams: grams.count,
-                shorter: grams.shorter,
-            })
-        }
-        Loaded::Refused(refusal) => Opened::Refused(refusal),
-    }
+    let grams = load::load(book, index)?;
+    let phrases = entries::find_entries(book, index);
+    Ok(Counts {
+        phrases,
+        grams: grams.count,
+        shorter: grams.shorter,
+    })
 }
 
 // The numbers of the B line: the reordering limit, the penalty, and the score of an unseen word; beside them the counts.
@@ -66,34 +47,35 @@ fn setup_of(book: &[i32], n: usize, counts: Counts) -> Setup
     Setup {
         n,
         limit,
-        eta: eta as i64,
+        eta: i64::from(eta),
         phrases: counts.phrases,
         model: LanguageModel {
             count: counts.grams,
             shorter: counts.shorter,
-            unseen: unseen as i64,
+            unseen: i64::from(unseen),
         },
     }
 }
 
 // Questions 9 and 10 of a direction, for a book that is open. (`index` is for the contract.)
-pub fn begin(book: &[i32], index: &[u16], counts: Counts, direction: &[u16]) -> Start
+pub fn begin(
+    book: &[i32],
+    index: &[u16],
+    counts: Counts,
+    direction: &[u16],
+) -> Result<Setup, Refusal>
     requires { Open book.now index.now counts }
     ensures { BegunAs book.now direction.now index.now result }
 {
-    match direction::check_direction(direction) {
-        Checked::Passed => Start::Ready(setup_of(book, direction.len(), counts)),
-        Checked::Refused(refusal) => Start::Refused(refusal),
-    }
+    direction::check_direction(direction)?;
+    Ok(setup_of(book, direction.len(), counts))
 }
 
 // One book and one direction: 2 to 6, 21 and 20, then 9 and 10.
-pub fn open_and_begin(book: &[i32], direction: &[u16], index: &mut [u16]) -> Start
+pub fn open_and_begin(book: &[i32], direction: &[u16], index: &mut [u16]) -> Result<Setup, Refusal>
     requires { index_size ≤ length index.old }
     ensures { StartOf book.now direction.now index.new result }
 {
-    match open_book(book, index) {
-        Opened::Book(counts) => begin(book, index, counts, direction),
-        Opened::Refused(refusal) => Start::Refused(refusal),
-    }
+    let counts = open_book(book, index)?;
+    begin(book, index, counts, direction)
 }

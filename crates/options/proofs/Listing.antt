@@ -69,20 +69,17 @@ listed_more {before} {after} {from} {count} {steps} l h step entry e =
           ∙ append_assoc (take (options_from + from) before) (entry_numbers steps) (step.entry ∷ []) ∙ ap (λ (xs : List ℕ). take (options_from + from) before ++ xs) (sym (map-append (λ s. s.entry) steps (step ∷ [])))));
     }
 
--- a turn of the loop over the entries: entries 1 to k - 1 are done
-module _ (book : Book) (direction : List ℕ) (first k : ℕ) {before after : List ℕ} {from count : ℕ} (some : 1 ≤ k) (l : Listed before after from count (fitting_at book direction first (k - 1))) where
-  back : k + 1 - 1 ≡ k
-  back = omega arith
+-- a turn of the loop over the entries: k entries are done
+module _ (book : Book) (direction : List ℕ) (first k : ℕ) {before after : List ℕ} {from count : ℕ} (l : Listed before after from count (fitting_at book direction first k)) where
+  pub entry_skipped : fits book direction (step_at book first (k + 1)) ≡ false → Listed before after from count (fitting_at book direction first (k + 1))
+  entry_skipped e = rw (at_not book direction first (k + 1) k refl e) l
 
-  pub entry_skipped : fits book direction (step_at book first k) ≡ false → Listed before after from count (fitting_at book direction first (k + 1 - 1))
-  entry_skipped e = rw (back, at_not book direction first k (k - 1) (omega arith) e) l
+  pub entry_room : (m : ℕ) → k < m → options_from + (from + m) ≤ length before → options_from + count < length after
+  entry_room m h room = let a = at_most book direction first k in let b = l.counted in let d = l.long in omega arith
 
-  pub entry_room : (m : ℕ) → k ≤ m → options_from + (from + m) ≤ length before → options_from + count < length after
-  entry_room m h room = let a = at_most book direction first (k - 1) in let b = l.counted in let d = l.long in omega arith
-
-  pub entry_taken : fits book direction (step_at book first k) ≡ true → options_from + count < length after → (entry : ℕ) → entry ≡ k
-      → Listed before (set after (options_from + count) entry) from (count + 1) (fitting_at book direction first (k + 1 - 1))
-  entry_taken e h entry z = rw (back, at_fits book direction first k (k - 1) (omega arith) e) (listed_more l h (step_at book first k) entry z)
+  pub entry_taken : fits book direction (step_at book first (k + 1)) ≡ true → options_from + count < length after
+      → Listed before (set after (options_from + count) (k + 1)) from (count + 1) (fitting_at book direction first (k + 1))
+  entry_taken e h = rw (at_fits book direction first (k + 1) k refl e) (listed_more l h (step_at book first (k + 1)) (k + 1) refl)
 
 -- ════ what the records say of each start and option
 

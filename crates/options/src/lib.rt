@@ -49,24 +49,13 @@ pub fn fits_at(book: &[i32], p: Phrase, direction: &[u16], first: usize, last: u
     requires { Phrased book.now p }
     ensures { (e : Entry) → PhraseOf book.now e p → result ≡ leb 1 first && leb first last && leb last (length direction.now) && eq_list eqb e.source (words_from_to first last direction.now) }
 {
-    if first < 1 {
+    if first < 1 || last < first || direction.len() < last || last + 1 - first != p.long {
         return false;
     }
-    if last < first {
-        return false;
-    }
-    if direction.len() < last {
-        return false;
-    }
-    if last + 1 - first != p.long {
-        return false;
-    }
-    let mut j = 0;
-    while j < p.long {
-        if model::word_at(book, p.source + j) != direction[first - 1 + j] {
+    for j in 0..p.long {
+        if model::word_of(book[p.source + j]) != direction[first - 1 + j] {
             return false;
         }
-        j += 1;
     }
     true
 }
@@ -87,21 +76,17 @@ pub fn list_at(
     ensures { Listed options.old options.new from result (fitting_at (book_of book.now) direction.now first t.phrases) }
 {
     let mut count = from;
-    let mut k = 1;
-    'entries: while k <= t.phrases {
-        let p = places::phrase_at(book, index, t.phrases, k);
-        k += 1;
+    'entries: for k in 0..t.phrases {
+        let p = places::phrase_at(book, index, t.phrases, k + 1);
         if direction.len() < first - 1 + p.long {
             continue 'entries;
         }
-        let mut j = 0;
-        'words: while j < p.long {
-            if model::word_at(book, p.source + j) != direction[first - 1 + j] {
+        'words: for j in 0..p.long {
+            if model::word_of(book[p.source + j]) != direction[first - 1 + j] {
                 continue 'entries;
             }
-            j += 1;
         }
-        options[OPTIONS_FROM + count] = (k - 1) as u16;
+        options[OPTIONS_FROM + count] = (k + 1) as u16;
         count += 1;
     }
     count
@@ -115,11 +100,9 @@ pub fn list_options(book: &[i32], index: &[u16], t: Setup, direction: &[u16], op
     ensures { OptionsOf (book_of book.now) direction.now options.new }
 {
     let mut count = 0;
-    let mut i = 0;
     put_start(options, 0, 0);
-    while i < direction.len() {
+    for i in 0..direction.len() {
         count = list_at(book, index, t, direction, i + 1, options, count);
-        i += 1;
-        put_start(options, i, count);
+        put_start(options, i + 1, count);
     }
 }

@@ -28,19 +28,19 @@ looking_start text = record { within = omega arith; body = refl }
 
 module _ {text : List ℕ} {at : ℕ} (l : Looking text at) where
   -- there is no further line
-  pub found_none : {to : ℕ} → to ≤ length text → filled_lines (drop at text) ≡ [] → filled_lines (drop to text) ≡ [] → DataFound text to
+  pub found_none : filled_lines (drop at text) ≡ [] → DataFound text (length text)
   unfolding behind_data
-  found_none h e f = record { within = h; body = f ∙ sym (ap behind_data e) ∙ l.body }
+  found_none e = record { within = omega arith; body = none_behind text {at = length text} (omega arith) ∙ sym (ap behind_data e) ∙ l.body }
 
-  module _ {places : List ℕ} {line : Line} (r : LineRead text at places line) (h : 1 ≤ line.count) where
+  module _ {places : List ℕ} {line : Line} (r : LineRead text at places line) where
     pub found_here : is_mark data_mark r.fields ≡ true → DataFound text line.next
     unfolding behind_data
     found_here e =
         let k : behind_data (r.fields ∷ filled_lines (drop line.next text)) ≡ filled_lines (drop line.next text) = rw e in
-        record { within = r.within; body = sym k ∙ sym (ap behind_data (r.some h)) ∙ l.body }
+        record { within = r.within; body = sym k ∙ sym (ap behind_data r.is) ∙ l.body }
 
     pub looking_on : is_mark data_mark r.fields ≡ false → Looking text line.next
     unfolding behind_data
     looking_on e =
         let k : behind_data (r.fields ∷ filled_lines (drop line.next text)) ≡ behind_data (filled_lines (drop line.next text)) = rw e in
-        record { within = r.within; body = sym k ∙ sym (ap behind_data (r.some h)) ∙ l.body }
+        record { within = r.within; body = sym k ∙ sym (ap behind_data r.is) ∙ l.body }

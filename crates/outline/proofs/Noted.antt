@@ -1,12 +1,19 @@
 -- The fields of a line that was read, by their places.
+use Rattle.std.proofs.Common.{Option, Some, None}
 use Prim.Native.Nat.{ℕ, ◌<◌}
-use mathlib.Core.Path.{◌≡◌}
+use mathlib.Core.Path.{◌≡◌, refl}
 use mathlib.Core.List.{List, []}
 use native.Mathlib.Omega.{arith}
-use lib.ListN.{get_or}
+use lib.ListN.{drop, get_or}
+use Rattle.arpa.specs.Lines.{filled_lines}
 use Rattle.tokens.specs.declared.scan.Line.{Line}
-use Rattle.tokens.specs.Scan.{field_at, FieldNoted, LineRead}
+use Rattle.tokens.specs.Scan.{field_at, FieldNoted, LineRead, NextRead}
 use Rattle.tokens.specs.Fields.{FieldsAt, FieldsRead}
+
+-- where no line was read there is none
+pub none_read : (text : List ℕ) (at : ℕ) (places : List ℕ) (next : Option Line) → ((line : Line) → next ≡ Some line → ⊥) → NextRead text at places next → filled_lines (drop at text) ≡ []
+none_read text at places None h r = r
+none_read text at places (Some line) h r = absurd (h line refl)
 
 module _ {text places : List ℕ} where
   pub read_fields : {at : ℕ} {line : Line} (r : LineRead text at places line) → FieldsAt text places line.count r.fields

@@ -9,17 +9,19 @@ use native.Mathlib.Numerals.{add-one}
 use lib.Dec.{leb}
 use lib.ListN.{length, get_or, take, drop, length-drop}
 use lib.Seq.{drop-drop}
-use borrow.Author.Tests.{leb-true, lt-leb}
+use borrow.Author.Tests.{leb-true, leb-false, lt-leb}
 use Rattle.laws.specs.Lists.{all}
 use Rattle.laws.proofs.Lists.{take_next}
-use Rattle.laws.proofs.Tests.{both, clash}
+use Rattle.laws.proofs.Tests.{both, clash, by_test}
 use Rattle.arpa.specs.File.{grams_mark, is_mark, is_count_line, count_of, counts_from, highest_order, is_gram_line, are_sections, ngrams_from}
 use Rattle.thousandths.specs.Digits.{CountIs}
 use Rattle.outline.specs.Outline.{lines_bound, Saturated, AreSaturated, Counting}
 
 -- a count is read so
 pub count_saturated : {m r : ℕ} → CountIs m r → Saturated m r
-count_saturated {m} {r} = ⊎_elim inl (λ (z : (r ≡ 18_446_744_073_709_551_615) × (18_446_744_073_709_551_600 ≤ m)). inr (omega arith, omega arith))
+count_saturated {m} {r} e = by_test (leb m 18_446_744_073_709_551_615)
+    (λ t. let l = leb-true m 18_446_744_073_709_551_615 t in inl (omega arith))
+    (λ f. let l = leb-false m 18_446_744_073_709_551_615 f in inr (omega arith, omega arith))
 
 pub saturated_length : (ms rs : List ℕ) → AreSaturated ms rs → length rs ≡ length ms
 saturated_length [] [] h = refl

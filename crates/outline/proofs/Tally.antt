@@ -4,11 +4,8 @@ use mathlib.Core.Path.{◌≡◌, ◌∙◌}
 use mathlib.Core.Bool.{true, false}
 use mathlib.Core.List.{List, []}
 use native.Mathlib.Omega.{arith}
-use lib.Dec.{eqb}
 use lib.ListN.{length, get_or, set, drop, length-set}
 use lib.Seq.{get_or-set_same, take-set-le}
-use borrow.Author.Tests.{eqb-true, eqb-false}
-use Rattle.laws.proofs.Tests.{by_test}
 use Rattle.meaning.specs.Numerals.{digits_value}
 use Rattle.arpa.specs.Lines.{filled_lines}
 use Rattle.arpa.specs.File.{is_count_line, counts_from, highest_order}
@@ -42,11 +39,12 @@ module _ {text : List ℕ} {at : ℕ} {counts : List ℕ} {n from : ℕ} (t : Ta
   unfolding counts_from
   tally_full h = let z : highest_order - n ≡ 0 = omega arith in tally_end (rw z)
 
+  pub tally_none : filled_lines (drop from text) ≡ [] → CountsRead text at counts (record { top = n; at = from })
+  tally_none e = tally_end (rw e (counts_none (highest_order - n) (n + 1)))
+
   module _ {places : List ℕ} {line : Line} (r : LineRead text from places line) where
     pub tally_stop : is_count_line (n + 1) r.fields ≡ false → CountsRead text at counts (record { top = n; at = from })
-    tally_stop other = tally_end (by_test (eqb line.count 0)
-        (λ e. rw (r.none (eqb-true line.count 0 e)) (counts_none (highest_order - n) (n + 1)))
-        (λ e. let z = eqb-false line.count 0 e in rw (r.some (omega arith)) (counts_stop (highest_order - n) (n + 1) r.fields _ other)))
+    tally_stop other = tally_end (rw r.is (counts_stop (highest_order - n) (n + 1) r.fields _ other))
 
     pub tally_more : {m : ℕ} → n < highest_order → is_count_line (n + 1) r.fields ≡ true → Saturated (digits_value 0 (drop 2 (get_or r.fields 1 []))) m
         → Tally text at (set counts n m) (n + 1) line.next
@@ -60,5 +58,5 @@ module _ {text : List ℕ} {at : ℕ} {counts : List ℕ} {n from : ℕ} (t : Ta
           within = r.within;
           counting =
               counting_more (filled_lines (drop at text)) counts n r.fields (filled_lines (drop line.next text)) (set counts n m) h (omega (arith, length-set counts n m)) (take-set-le n counts n m (omega arith)) is
-              (rw k.value read) (rw (r.some (omega (arith, k.two, r.long))) at t.counting);
+              (rw k.value read) (rw r.is at t.counting);
         }

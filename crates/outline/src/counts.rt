@@ -7,7 +7,6 @@ ghost use Rattle.tokens.specs.Fields.{FieldsAt, FieldsRead};
 ghost use Rattle.outline.specs.Outline.{Saturated, CountsRead, DataFound};
 
 use crate::lines;
-use tokens::same::same_bytes;
 use tokens::scan;
 
 // The highest order.
@@ -27,17 +26,14 @@ pub fn find_data(text: &[u8], places: &mut [usize]) -> usize
     ensures places_len_unchanged { length places.new ≡ length places.old }
 {
     let mut at = 0;
-    while at < text.len() {
-        let line = scan::read_line(text, at, places);
-        if line.count == 0 {
-            return text.len();
-        }
+    // No iterator: each turn also fills `places`, and goes on behind the line that it read.
+    while let Some(line) = scan::read_line(text, at, places) {
         at = line.next;
         if lines::is_mark(text, places, line.count, b"\\data\\") {
             return at;
         }
     }
-    at
+    text.len()
 }
 
 // Whether a field is `N=M`, for N the order and M in digits.
@@ -45,16 +41,9 @@ fn is_count(field: &[u8], order: usize) -> bool
     requires { order ≤ 3 }
     ensures { result ≡ is_count order field.now }
 {
-    if field.len() < 2 {
-        return false;
-    }
-    if field[0] != 48 + order as u8 {
-        return false;
-    }
-    if field[1] != 61 {
-        return false;
-    }
-    thousandths::are_digits(&field[2..])
+    field
+        .strip_prefix(&[b'0' + order as u8, b'='])
+        .is_some_and(thousandths::are_digits)
 }
 
 // Whether a line is `ngram N=M`, for N the order.
@@ -63,13 +52,9 @@ fn is_count_line(text: &[u8], places: &[usize], count: usize, order: usize) -> b
     requires order_bound { order ≤ 3 }
     ensures { (fields : List (List ℕ)) → FieldsAt text.now places.now count fields → result ≡ is_count_line order fields }
 {
-    if count != 2 {
-        return false;
-    }
-    if !same_bytes(scan::field(text, places, 0), b"ngram") {
-        return false;
-    }
-    is_count(scan::field(text, places, 1), order)
+    count == 2
+        && scan::field(text, places, 0) == b"ngram".as_slice()
+        && is_count(scan::field(text, places, 1), order)
 }
 
 // The M of a field `N=M`.
@@ -89,16 +74,19 @@ pub fn read_counts(text: &[u8], at: usize, places: &mut [usize], counts: &mut [u
     ensures counts_read { CountsRead text.now at counts.new result }
     ensures places_len_unchanged { length places.new ≡ length places.old }
 {
-    let mut n = 0;
     let mut from = at;
-    while n < HIGHEST {
-        let line = scan::read_line(text, from, places);
+    for n in 0..HIGHEST {
+        let Some(line) = scan::read_line(text, from, places) else {
+            return Counted { top: n, at: from };
+        };
         if !is_count_line(text, places, line.count, n + 1) {
             return Counted { top: n, at: from };
         }
         counts[n] = count_in(scan::field(text, places, 1));
         from = line.next;
-        n += 1;
     }
-    Counted { top: n, at: from }
+    Counted {
+        top: HIGHEST,
+        at: from,
+    }
 }

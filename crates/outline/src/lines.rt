@@ -5,7 +5,6 @@ ghost use Rattle.arpa.specs.File.{grams_mark, is_mark, is_gram_line, ngram_of, i
 ghost use Rattle.tokens.specs.Scan.{field_at, FieldNoted};
 ghost use Rattle.tokens.specs.Fields.{FieldsAt, FieldsRead};
 
-use tokens::same::same_bytes;
 use tokens::scan;
 
 // Whether the line is the mark, alone.
@@ -13,10 +12,7 @@ pub fn is_mark(text: &[u8], places: &[usize], count: usize, mark: &[u8]) -> bool
     requires { FieldsRead text.now places.now count }
     ensures { (fields : List (List ℕ)) → FieldsAt text.now places.now count fields → result ≡ is_mark mark.now fields }
 {
-    if count != 1 {
-        return false;
-    }
-    same_bytes(scan::field(text, places, 0), mark)
+    count == 1 && scan::field(text, places, 0) == mark
 }
 
 // Whether it is `\N-grams:`, for N the order.
@@ -25,8 +21,8 @@ pub fn is_section(text: &[u8], places: &[usize], count: usize, order: usize) -> 
     requires order_bound { order ≤ 3 }
     ensures { (fields : List (List ℕ)) → FieldsAt text.now places.now count fields → result ≡ is_mark (grams_mark order) fields }
 {
-    let digit = 48 + order as u8;
-    let mark = [92, digit, 45, 103, 114, 97, 109, 115, 58];
+    let digit = b'0' + order as u8;
+    let mark = [b'\\', digit, b'-', b'g', b'r', b'a', b'm', b's', b':'];
     is_mark(text, places, count, &mark)
 }
 
@@ -44,22 +40,14 @@ pub fn is_gram_line(text: &[u8], places: &[usize], count: usize, top: usize, ord
     requires order_bound { order ≤ 3 }
     ensures { (fields : List (List ℕ)) → FieldsAt text.now places.now count fields → result ≡ is_gram_line top order fields }
 {
-    if count <= order {
+    if count <= order || !is_value_at(text, places, 0) {
         return false;
     }
-    if !is_value_at(text, places, 0) {
-        return false;
+    match count - order {
+        1 => true,
+        2 => order < top && is_value_at(text, places, order + 1),
+        _ => false,
     }
-    if count == order + 1 {
-        return true;
-    }
-    if order + 2 < count {
-        return false;
-    }
-    if top <= order {
-        return false;
-    }
-    is_value_at(text, places, order + 1)
 }
 
 // Whether the n-gram's line lists `<unk>` alone.
@@ -68,8 +56,5 @@ pub fn is_unknown(text: &[u8], places: &[usize], count: usize, order: usize) -> 
     requires order_bound { order + 1 ≤ count }
     ensures { (fields : List (List ℕ)) → FieldsAt text.now places.now count fields → result ≡ is_unknown (ngram_of order fields) }
 {
-    if order != 1 {
-        return false;
-    }
-    same_bytes(scan::field(text, places, 1), b"<unk>")
+    order == 1 && scan::field(text, places, 1) == b"<unk>".as_slice()
 }

@@ -1,4 +1,6 @@
 -- The demands of specs/Demands, from the contracts of `decode` and of `score` alone: whoever meets those contracts meets them.
+use Rattle.std.specs.declared.result.Result.TheVariants.{Ok, Err}
+use Rattle.std.specs.declared.result.Result.{Result}
 use Prim.Native.Nat.{ℕ, zero, suc, ◌/◌, ◌≤◌, ◌<◌}
 use native.Mathlib.Omega.{arith}
 use native.Mathlib.Nat.{le_trans}
@@ -17,12 +19,8 @@ use Rattle.meaning.specs.Book.{Book, book_of}
 use Rattle.meaning.specs.Derivation.{target_words, supplied_of, in_all}
 use Rattle.meaning.specs.State.{Key, AreReachable}
 use Rattle.meaning.specs.Search.{is_off, entered, answer}
-use Rattle.meaning.specs.Reply.{Reply, refused, done, Lent, written_over, proposal_refusal, totals_of, score_proposal, scored_reply, before_search, decode_refusal, answer_steps, decode, decoded_reply, cleared_if, decoded_steps, decoded_words, decoded_store, Decodes, search_answer}
+use Rattle.meaning.specs.Reply.{Reply, refused, done, Lent, written_over, proposal_refusal, totals_of, score_proposal, reply_of, before_search, decode_refusal, answer_steps, decode, cleared_if, decoded_steps, decoded_words, decoded_store, Decodes, search_answer}
 use Rattle.meaning.specs.declared.Answer.{Answer}
-use Rattle.meaning.specs.declared.Decoded.{Decoded}
-use Rattle.meaning.specs.declared.Decoded.TheVariants.{Done, Refused}
-use Rattle.meaning.specs.declared.Scored.{Scored}
-use Rattle.meaning.specs.declared.Scored.TheVariants.{Done as Totalled, Refused as ScoreRefused}
 use Rattle.meaning.specs.declared.Totals.{Totals}
 use Rattle.meaning.specs.declared.Refusal.{Refusal}
 use Rattle.meaning.specs.declared.Refusal.TheVariants.{StoreTooSmall, NoDerivation, LastSetEmpty}
@@ -36,24 +34,24 @@ use Rattle.phrase.specs.Demands.{DecodeDemands, SameAnswer, ScoreDemands}
 
 -- ════ the result of a scoring by its reply
 
-refused_scored : (result : Scored) (k : ℕ) → scored_reply result ≡ refused k → (refusal : Refusal) × (result ≡ ScoreRefused refusal) × (number refusal ≡ k)
-refused_scored (Totalled t) k e = let c : ◌≡◌ {A = ℕ} 0 1 = cc in absurd (omega arith)
-refused_scored (ScoreRefused r) k e = (r, refl, cc)
+refused_scored : (result : Result Totals Refusal) (k : ℕ) → reply_of result ≡ refused k → (refusal : Refusal) × (result ≡ Err refusal) × (number refusal ≡ k)
+refused_scored (Ok t) k e = let c : ◌≡◌ {A = ℕ} 0 1 = cc in absurd (omega arith)
+refused_scored (Err r) k e = (r, refl, cc)
 
-done_scored : (result : Scored) (t : Totals) → scored_reply result ≡ done t → result ≡ Totalled t
-done_scored (Totalled s) t e = let c : s ≡ t = cc in ap Totalled c
-done_scored (ScoreRefused r) t e = let c : ◌≡◌ {A = ℕ} 0 1 = cc in absurd (omega arith)
+done_scored : (result : Result Totals Refusal) (t : Totals) → reply_of result ≡ done t → result ≡ Ok t
+done_scored (Ok s) t e = let c : s ≡ t = cc in ap Ok c
+done_scored (Err r) t e = let c : ◌≡◌ {A = ℕ} 0 1 = cc in absurd (omega arith)
 
 -- ════ a decode
 
 -- its result by its reply
-refused_result : (result : Decoded) (refusal : Refusal) → decoded_reply result ≡ refused (number refusal) → result ≡ Refused refusal
-refused_result (Done a) refusal e = let z : ◌≡◌ {A = ℕ} 0 1 = cc in absurd (omega arith)
-refused_result (Refused r) refusal e = let z : number r ≡ number refusal = cc in ap Refused (number_same r refusal z)
+refused_result : (result : Result Answer Refusal) (refusal : Refusal) → reply_of result ≡ refused (number refusal) → result ≡ Err refusal
+refused_result (Ok a) refusal e = let z : ◌≡◌ {A = ℕ} 0 1 = cc in absurd (omega arith)
+refused_result (Err r) refusal e = let z : number r ≡ number refusal = cc in ap Err (number_same r refusal z)
 
-pub done_result : (result : Decoded) (a : Answer) → decoded_reply result ≡ done a → result ≡ Done a
-done_result (Done b) a e = let s : b ≡ a = cc in ap Done s
-done_result (Refused r) a e = let z : ◌≡◌ {A = ℕ} 0 1 = cc in absurd (omega arith)
+pub done_result : (result : Result Answer Refusal) (a : Answer) → reply_of result ≡ done a → result ≡ Ok a
+done_result (Ok b) a e = let s : b ≡ a = cc in ap Ok s
+done_result (Err r) a e = let z : ◌≡◌ {A = ℕ} 0 1 = cc in absurd (omega arith)
 
 cleared : (k : ℕ) (store : List ℤ) → k ≡ 0 → cleared_if k store ≡ replicate (length store) (pos 0)
 cleared zero store e = refl
@@ -78,7 +76,7 @@ room_or_small book direction places =
     let keys = keys_entered book direction (negsuc 0) in
     by_test (leb (length keys) places) (λ t. inl (keys, entered_all book direction, leb-true _ _ t)) (λ f. inr (keys, entered_all book direction, leb-false _ _ f))
 
-module _ (loaded : List ℤ) (direction : List ℕ) (width : ℤ) (steps₀ steps₁ : List Step) (words₀ words₁ : List ℕ) (store₀ store₁ : List ℤ) (result : Decoded)
+module _ (loaded : List ℤ) (direction : List ℕ) (width : ℤ) (steps₀ steps₁ : List Step) (words₀ words₁ : List ℕ) (store₀ store₁ : List ℤ) (result : Result Answer Refusal)
     (D : Decodes loaded direction width steps₀ steps₁ words₀ words₁ store₀ store₁ result) where
   abbrev book : Book
   book = book_of loaded
@@ -86,48 +84,48 @@ module _ (loaded : List ℤ) (direction : List ℕ) (width : ℤ) (steps₀ step
   abbrev lent : Lent
   lent = record { steps = length steps₀; words = length words₀; store = length store₀ }
 
-  decoded : (a : Answer) → result ≡ Done a → decode loaded direction width lent ≡ done a
-  decoded a e = sym D.reply_is ∙ ap decoded_reply e
+  decoded : (a : Answer) → result ≡ Ok a → decode loaded direction width lent ≡ done a
+  decoded a e = sym D.reply_is ∙ ap reply_of e
 
-  turned : (refusal : Refusal) → result ≡ Refused refusal → decode loaded direction width lent ≡ refused (number refusal)
-  turned refusal e = sym D.reply_is ∙ ap decoded_reply e
+  turned : (refusal : Refusal) → result ≡ Err refusal → decode loaded direction width lent ≡ refused (number refusal)
+  turned refusal e = sym D.reply_is ∙ ap reply_of e
 
   -- the steps that the search arrives at
   abbrev found : List Step
   found = answer_steps (answer book direction width)
 
-  refusal_is : (refusal : Refusal) → result ≡ Refused refusal → decode_refusal loaded direction width lent ≡ number refusal
+  refusal_is : (refusal : Refusal) → result ≡ Err refusal → decode_refusal loaded direction width lent ≡ number refusal
   unfolding decode
   refusal_is refusal e = refused_is (decode_refusal loaded direction width lent) (number refusal) _ (turned refusal e)
 
-  passes : (a : Answer) → result ≡ Done a → decode_refusal loaded direction width lent ≡ 0
+  passes : (a : Answer) → result ≡ Ok a → decode_refusal loaded direction width lent ≡ 0
   unfolding decode
   passes a e = done_passes (decode_refusal loaded direction width lent) _ a (decoded a e)
 
   -- the answer is what the search determines
-  answer_is : (a : Answer) → result ≡ Done a → search_answer book direction width ≡ a
+  answer_is : (a : Answer) → result ≡ Ok a → search_answer book direction width ≡ a
   unfolding decode
   answer_is a e = done_is (decode_refusal loaded direction width lent) _ a (decoded a e)
 
   -- they and their words stand in the lists, or the lists are as before
-  pub lists_written : (a : Answer) → result ≡ Done a → (steps₁ ≡ written_over found steps₀) × (words₁ ≡ written_over (target_words book found) words₀)
+  pub lists_written : (a : Answer) → result ≡ Ok a → (steps₁ ≡ written_over found steps₀) × (words₁ ≡ written_over (target_words book found) words₀)
   unfolding decoded_steps decoded_words
   lists_written a e = (D.steps_are ∙ written_done _ found steps₀ (passes a e), D.words_are ∙ written_done _ (target_words book found) words₀ (passes a e))
 
-  lists_kept : (refusal : Refusal) → result ≡ Refused refusal → (steps₁ ≡ steps₀) × (words₁ ≡ words₀)
+  lists_kept : (refusal : Refusal) → result ≡ Err refusal → (steps₁ ≡ steps₀) × (words₁ ≡ words₀)
   unfolding decoded_steps decoded_words
   lists_kept refusal e =
       let k : 1 ≤ decode_refusal loaded direction width lent = omega (arith, refusal_is refusal e, number_from refusal) in
       (D.steps_are ∙ written_refused _ found steps₀ k, D.words_are ∙ written_refused _ (target_words book found) words₀ k)
 
   -- where the lists have the steps and the words: at the beginning, so many as are reported
-  steps_first : (a : Answer) → result ≡ Done a → take a.steps steps₁ ≡ found
+  steps_first : (a : Answer) → result ≡ Ok a → take a.steps steps₁ ≡ found
   steps_first a e = first_over found steps₀ a.steps (lists_written a e).0 (Notes.decode_counts loaded direction width lent a (decoded a e)).0
 
-  words_first : (a : Answer) → result ≡ Done a → take a.words words₁ ≡ target_words book found
+  words_first : (a : Answer) → result ≡ Ok a → take a.words words₁ ≡ target_words book found
   words_first a e = first_over (target_words book found) words₀ a.words (lists_written a e).1 (Notes.decode_counts loaded direction width lent a (decoded a e)).1
 
-  lists_rest : (a : Answer) → result ≡ Done a → (drop a.steps steps₁ ≡ drop a.steps steps₀) × (drop a.words words₁ ≡ drop a.words words₀)
+  lists_rest : (a : Answer) → result ≡ Ok a → (drop a.steps steps₁ ≡ drop a.steps steps₀) × (drop a.words words₁ ≡ drop a.words words₀)
   lists_rest a e =
       let n = Notes.decode_counts loaded direction width lent a (decoded a e) in
       (rest_over found steps₀ a.steps (lists_written a e).0 n.0, rest_over (target_words book found) words₀ a.words (lists_written a e).1 n.1)
@@ -141,17 +139,17 @@ module _ (loaded : List ℤ) (direction : List ℕ) (width : ℤ) (steps₀ step
   store_same h = D.store_is ∙ kept (before_search loaded direction width lent) store₀ h
 
   -- where a refusal, or none, is the definitions', it is the result's
-  says : (refusal : Refusal) → decode loaded direction width lent ≡ refused (number refusal) → result ≡ Refused refusal
+  says : (refusal : Refusal) → decode loaded direction width lent ≡ refused (number refusal) → result ≡ Err refusal
   says refusal e = refused_result result refusal (D.reply_is ∙ e)
 
-  answers : (a : Answer) → decode loaded direction width lent ≡ done a → result ≡ Done a
+  answers : (a : Answer) → decode loaded direction width lent ≡ done a → result ≡ Ok a
   answers a e = done_result result a (D.reply_is ∙ e)
 
-  taken : (decode_refusal loaded direction width lent ≡ 0) ↔ ((a : Answer) × (result ≡ Done a))
+  taken : (decode_refusal loaded direction width lent ≡ 0) ↔ ((a : Answer) × (result ≡ Ok a))
   unfolding decode
   taken = (λ z. (_, answers _ (reply_done (decode_refusal loaded direction width lent) _ z)), λ r. passes r.0 r.1)
 
-  turned_down : (refusal : Refusal) → (decode_refusal loaded direction width lent ≡ number refusal) ↔ (result ≡ Refused refusal)
+  turned_down : (refusal : Refusal) → (decode_refusal loaded direction width lent ≡ number refusal) ↔ (result ≡ Err refusal)
   unfolding decode
   turned_down refusal = (
     λ z. says refusal (sym (refused_reply refusal (decode_refusal loaded direction width lent) _ z)),
@@ -170,7 +168,7 @@ module _ (loaded : List ℤ) (direction : List ℕ) (width : ℤ) (steps₀ step
   room v r = le_trans (entered_few book direction v r.0 r.1.all_listed) r.2
 
   -- .. and a store that is too small for those entered is too small for all of them
-  small : result ≡ Refused StoreTooSmall → length store₀ / 8 < length (keys_entered book direction (negsuc 0))
+  small : result ≡ Err StoreTooSmall → length store₀ / 8 < length (keys_entered book direction (negsuc 0))
   small e =
       let t = turned StoreTooSmall e in
       let h = (Notes.decode_full loaded direction width lent (Notes.refused_late loaded direction width lent 13 refl t)).0 t in
@@ -178,7 +176,7 @@ module _ (loaded : List ℤ) (direction : List ℕ) (width : ℤ) (steps₀ step
 
   -- an answer, or the refusal for an empty last set, with the width v
   answer_or : (v : ℤ) → width ≡ v → (refusal : Refusal) → number refusal ≡ cond (is_off v) 14 15 → before_search loaded direction width lent ≡ 0
-      → length (entered book direction v) ≤ length store₀ / 8 → ((a : Answer) × (result ≡ Done a)) ⊎ (result ≡ Refused refusal)
+      → length (entered book direction v) ≤ length store₀ / 8 → ((a : Answer) × (result ≡ Ok a)) ⊎ (result ≡ Err refusal)
   answer_or v w refusal n b h =
       ⊎_elim
       (λ o. inl (o.0, answers o.0 (sym (decode_at v w) ∙ o.1)))
@@ -186,10 +184,10 @@ module _ (loaded : List ℤ) (direction : List ℕ) (width : ℤ) (steps₀ step
       (Notes.answer_or_none loaded direction v lent (before_at v w b) h)
 
   -- with pruning off
-  first_off : width ≡ negsuc 0 → (a : Answer) → result ≡ Done a → take a.steps steps₁ ≡ answer_steps (answer book direction (negsuc 0))
+  first_off : width ≡ negsuc 0 → (a : Answer) → result ≡ Ok a → take a.steps steps₁ ≡ answer_steps (answer book direction (negsuc 0))
   first_off w a e = steps_first a e ∙ ap (λ (v : ℤ). answer_steps (answer book direction v)) w
 
-  states_entered : (a : Answer) → result ≡ Done a → a.states ≡ length (entered book direction width)
+  states_entered : (a : Answer) → result ≡ Ok a → a.states ≡ length (entered book direction width)
   states_entered a e = Notes.decode_states loaded direction width lent a (decoded a e)
 
   pub decode_demands : DecodeDemands loaded direction width steps₀ steps₁ words₀ words₁ store₀ store₁ result
@@ -237,7 +235,7 @@ module _ (loaded : List ℤ) (direction : List ℕ) (width : ℤ) (steps₀ step
 
 -- ════ two decodes of one book, direction and width
 
-pub same_answer : (loaded : List ℤ) (direction : List ℕ) (width : ℤ) (steps₀ steps₁ steps₀' steps₂ : List Step) (words₀ words₁ words₀' words₂ : List ℕ) (store₀ store₁ store₀' store₂ : List ℤ) (result₁ result₂ : Decoded)
+pub same_answer : (loaded : List ℤ) (direction : List ℕ) (width : ℤ) (steps₀ steps₁ steps₀' steps₂ : List Step) (words₀ words₁ words₀' words₂ : List ℕ) (store₀ store₁ store₀' store₂ : List ℤ) (result₁ result₂ : Result Answer Refusal)
     → Decodes loaded direction width steps₀ steps₁ words₀ words₁ store₀ store₁ result₁ → Decodes loaded direction width steps₀' steps₂ words₀' words₂ store₀' store₂ result₂
     → SameAnswer steps₁ steps₂ words₁ words₂ result₁ result₂
 same_answer loaded direction width steps₀ steps₁ steps₀' steps₂ words₀ words₁ words₀' words₂ store₀ store₁ store₀' store₂ result₁ result₂ D E =
@@ -249,28 +247,28 @@ same_answer loaded direction width steps₀ steps₁ steps₀' steps₂ words₀
 
 -- ════ a scoring
 
-module _ (loaded : List ℤ) (direction : List ℕ) (steps : List Step) (result : Scored) (E : scored_reply result ≡ score_proposal loaded direction steps) where
-  turned_down' : (refusal : Refusal) → (proposal_refusal loaded direction steps ≡ number refusal) ↔ (result ≡ ScoreRefused refusal)
+module _ (loaded : List ℤ) (direction : List ℕ) (steps : List Step) (result : Result Totals Refusal) (E : reply_of result ≡ score_proposal loaded direction steps) where
+  turned_down' : (refusal : Refusal) → (proposal_refusal loaded direction steps ≡ number refusal) ↔ (result ≡ Err refusal)
   unfolding score_proposal
   turned_down' refusal = (
     λ z.
         let r = refused_scored result (number refusal) (E ∙ sym (refused_reply refusal (proposal_refusal loaded direction steps) _ z)) in
-        r.1 ∙ ap ScoreRefused (number_same r.0 refusal r.2),
-    λ e. refused_is (proposal_refusal loaded direction steps) (number refusal) _ (sym E ∙ ap scored_reply e),
+        r.1 ∙ ap Err (number_same r.0 refusal r.2),
+    λ e. refused_is (proposal_refusal loaded direction steps) (number refusal) _ (sym E ∙ ap reply_of e),
   )
 
-  supplied_is : (t : Totals) → result ≡ Totalled t → t.supplied ≡ supplied_of (book_of loaded) steps
-  supplied_is t e = ap (λ (x : Totals). x.supplied) (sym (Notes.scored_totals loaded direction steps t (sym E ∙ ap scored_reply e)))
+  supplied_is : (t : Totals) → result ≡ Ok t → t.supplied ≡ supplied_of (book_of loaded) steps
+  supplied_is t e = ap (λ (x : Totals). x.supplied) (sym (Notes.scored_totals loaded direction steps t (sym E ∙ ap reply_of e)))
 
   pub score_demands : ScoreDemands loaded direction steps result
   score_demands =
       record {
         turned_down = turned_down';
-        scored_valid = λ t e. let d = Notes.scored_valid loaded direction steps t (sym E ∙ ap scored_reply e) in (d.steps_valid, d.steps_score);
+        scored_valid = λ t e. let d = Notes.scored_valid loaded direction steps t (sym E ∙ ap reply_of e) in (d.steps_valid, d.steps_score);
         supplied_are = supplied_is;
         supplied_in_all = λ t e. ap in_all (supplied_is t e) ∙ supplied_all (book_of loaded) steps;
         valid_scored = λ b d v. done_scored result (totals_of (book_of loaded) steps) (E ∙ Notes.valid_scored loaded direction b d steps v);
-        refused_invalid = λ refusal e h. Notes.refused_invalid loaded direction steps (number refusal) h (sym E ∙ ap scored_reply e);
+        refused_invalid = λ refusal e h. Notes.refused_invalid loaded direction steps (number refusal) h (sym E ∙ ap reply_of e);
         invalid_refused = λ b d v.
             let k = Notes.invalid_refused loaded direction b d steps v in
             let r = refused_scored result k.0 (E ∙ k.2) in

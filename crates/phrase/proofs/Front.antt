@@ -1,4 +1,6 @@
 -- The reply to a proposed list is the reply to its first 33 steps, whatever the book and the direction.
+use Rattle.std.specs.declared.result.Result.{Result}
+use Rattle.meaning.specs.declared.Refusal.{Refusal}
 use Prim.Native.Nat.{ℕ, zero, suc}
 use mathlib.Core.Path.{◌≡◌, refl, ap, ◌∙◌}
 use mathlib.Core.List.{List}
@@ -8,10 +10,9 @@ use Rattle.meaning.specs.Questions.{◌orelse◌}
 use Rattle.meaning.specs.Book.{book_refusal, book_of}
 use Rattle.meaning.specs.Direction.{word_count, direction_refusal}
 use Rattle.meaning.specs.State.{start}
-use Rattle.meaning.specs.Reply.{Reply, reply, steps_refusal, proposal_refusal, totals_of, score_proposal, scored_reply}
+use Rattle.meaning.specs.Reply.{Reply, reply, steps_refusal, proposal_refusal, totals_of, score_proposal, reply_of}
 use Rattle.meaning.specs.declared.Step.{Step}
 use Rattle.meaning.specs.declared.Totals.{Totals}
-use Rattle.meaning.specs.declared.Scored.{Scored}
 use Rattle.meaning.proofs.Demands.{direction_to}
 use Rattle.proposal.proofs.Long.{front_decides}
 use Rattle.records.specs.declared.Plain.{Plain}
@@ -33,6 +34,6 @@ module _ (loaded : List ℤ) (direction : List ℕ) where
       by (suc b) d p q = refl
 
   -- so what is said of the gathered steps is said of the list
-  pub gathered_decide : (steps : List Step) (plain : Plain) (y : Scored) → Gathered plain steps → scored_reply y ≡ score_proposal loaded direction (steps_of plain)
-      → scored_reply y ≡ score_proposal loaded direction steps
+  pub gathered_decide : (steps : List Step) (plain : Plain) (y : Result Totals Refusal) → Gathered plain steps → reply_of y ≡ score_proposal loaded direction (steps_of plain)
+      → reply_of y ≡ score_proposal loaded direction steps
   gathered_decide steps plain y e said = said ∙ ap (score_proposal loaded direction) e.0 ∙ front_same steps

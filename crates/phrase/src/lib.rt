@@ -2,17 +2,17 @@
 #![tactic(auto)]
 
 ghost use Rattle.std.specs.Prelude.{◌≡◌, length};
-ghost use Rattle.meaning.specs.Reply.{checked_reply, read_reply, written_if, scored_reply, score_proposal, Decodes};
+ghost use Rattle.meaning.specs.Reply.{reply_of, written_if, reply_of, score_proposal, Decodes};
 ghost use Rattle.meaning.specs.Round.{as_records, decode_round, round_refusal, directions_of, RoundLists};
 ghost use Rattle.meaning.specs.Sheet.{round_sheet, sheet_refusal, sheet_reply};
 ghost use Rattle.round_rows.specs.Rows.{lent_records};
 
-use meaning::{Checked, Decoded, Read, Scored, Step};
+use meaning::{Answer, Refusal, Step, Totals};
 
 // "Scoring a proposed list", of any length: questions 2 to 6, 9, 10 and 16 to 19, and where none refuses the score of the steps and the four counts of
 // ticket 3. The first 33 records decide: of 32 words none is left for the 33rd.
-pub fn score(book: &[i32], direction: &[u16], steps: &[Step]) -> Scored
-    ensures { scored_reply result ≡ score_proposal book.now direction.now steps.now }
+pub fn score(book: &[i32], direction: &[u16], steps: &[Step]) -> Result<Totals, Refusal>
+    ensures { reply_of result ≡ score_proposal book.now direction.now steps.now }
 {
     let plain = records::gather(steps);
     scoring::score_plain(book, direction, plain)
@@ -28,7 +28,7 @@ pub fn decode(
     steps: &mut [Step],
     words: &mut [u16],
     store: &mut [i64],
-) -> Decoded
+) -> Result<Answer, Refusal>
     ensures { Decodes book.now direction.now width steps.old steps.new words.old words.new store.old store.new result }
 {
     let answer = plain::decode_plain(book, direction, width, steps.len(), words, store);
@@ -47,8 +47,8 @@ pub fn decode_round(
     words: &mut [u16],
     store: &mut [i64],
     answers: &mut [i64],
-) -> Checked
-    ensures result_value { checked_reply result ≡ decode_round book.now directions.now ends.now (lent_records (length steps.old) words.old store.old) (length answers.old) }
+) -> Result<(), Refusal>
+    ensures result_value { reply_of result ≡ decode_round book.now directions.now ends.now (lent_records (length steps.old) words.old store.old) (length answers.old) }
     ensures round_lists { RoundLists as_records (round_refusal book.now directions.now ends.now (lent_records (length steps.old) words.old store.old) (length answers.old)) book.now (directions_of directions.now ends.now) width steps.old steps.new words.old words.new store.old store.new answers.old answers.new }
 {
     let answer = round_rows::decode_rows(
@@ -76,8 +76,8 @@ pub fn round_sheet(
     store: &mut [i64],
     answers: &mut [i64],
     sheet: &mut [u8],
-) -> Read
-    ensures result_value { read_reply result ≡ sheet_reply book.now directions.now ends.now width (lent_records (length steps.old) words.old store.old) (length answers.old) (length sheet.old) }
+) -> Result<usize, Refusal>
+    ensures result_value { reply_of result ≡ sheet_reply book.now directions.now ends.now width (lent_records (length steps.old) words.old store.old) (length answers.old) (length sheet.old) }
     ensures round_lists { RoundLists as_records (sheet_refusal book.now directions.now ends.now (lent_records (length steps.old) words.old store.old) (length answers.old) (length sheet.old)) book.now (directions_of directions.now ends.now) width steps.old steps.new words.old words.new store.old store.new answers.old answers.new }
     ensures sheet_after { sheet.new ≡ written_if (sheet_refusal book.now directions.now ends.now (lent_records (length steps.old) words.old store.old) (length answers.old) (length sheet.old)) (round_sheet book.now directions.now ends.now width (length store.old)) sheet.old }
 {

@@ -12,7 +12,7 @@ use book::entries::INDEX_SIZE;
 use decoder::decode;
 use decoder::decode::Lent;
 use extending::Beam;
-use opening::{Counts, Opened, Start};
+use opening::Counts;
 
 // What a direction of an open book is decoded with: the book's counts, the width, a step list of `room` places, and a store that is all
 // zero where `swept` says so.
@@ -40,7 +40,7 @@ pub fn decode_open(
     ensures { PlainDecodes book.now direction.now turn.width turn.room words.old words.new store.old store.new result }
 {
     match opening::begin(book, index, turn.counts, direction) {
-        Start::Ready(setup) => {
+        Ok(setup) => {
             let beam = Beam {
                 setup,
                 width: turn.width,
@@ -51,7 +51,7 @@ pub fn decode_open(
             };
             decode::decode_with(book, direction, index, options, beam, lent, words, store)
         }
-        Start::Refused(refusal) => decode::refused(refusal),
+        Err(refusal) => decode::refused(refusal),
     }
 }
 
@@ -68,16 +68,15 @@ pub fn decode_plain(
 {
     let mut index = [0u16; INDEX_SIZE];
     let mut options = [0u16; options::OPTIONS_SIZE];
-    match opening::open_book(book, &mut index) {
-        Opened::Book(counts) => {
-            let turn = Turn {
-                counts,
-                width,
-                room,
-                swept: false,
-            };
-            decode_open(book, direction, &index, &mut options, turn, words, store)
-        }
-        Opened::Refused(refusal) => decode::refused(refusal),
-    }
+    let counts = match opening::open_book(book, &mut index) {
+        Ok(counts) => counts,
+        Err(refusal) => return decode::refused(refusal),
+    };
+    let turn = Turn {
+        counts,
+        width,
+        room,
+        swept: false,
+    };
+    decode_open(book, direction, &index, &mut options, turn, words, store)
 }

@@ -9,7 +9,6 @@ use mathlib.Core.List.{List, [], ◌∷◌}
 use borrow.Author.Tests.{le-leb, lt-leb, leb-true, leb-false, eqb-true, eqb-false}
 use lib.Dec.{eqb, leb, leb-suc-suc}
 use lib.ListN.{length, get_or, set, drop, drop_of_length-le, length-drop}
-use lib.Pow.{pow-add}
 use lib.Seq.{get_or-set_same, get_or-set_other, drop-nil}
 use Rattle.laws.specs.Bits.{bits_of, one, of_bits, ones, apart, joined}
 use Rattle.laws.proofs.Tests.{by_test, both, both_of, is_false}
@@ -21,9 +20,6 @@ use Rattle.meaning.specs.declared.Step.{Step}
 use Rattle.positions.specs.Runs.{free_run, run_here, Unpacked, RunsFrom, mask_of}
 
 -- ════ the digits
-
-pub unpack_start : (digits : List ℕ) (n c : ℕ) → Unpacked digits n c 0
-unpack_start digits n c = record { digit_at = λ j h. absurd (omega arith) }
 
 module _ (digits : List ℕ) (n c i rest : ℕ) (h : i < n) (room : i < length digits) (u : Unpacked digits n c i)
     (left : bits_of (n - i) rest ≡ drop i (bits_of n c)) where
@@ -276,20 +272,3 @@ cover_ones step bits a b c free =
     ap ones (cover_joined step 1 bits)
     ∙ ones_joined bits (step_bits step 1 (length bits)) (sym (free_apart step 1 bits) ∙ free)
     ∙ ap (λ (k : ℕ). ones bits + k) (step_ones step 1 (length bits) a b (omega arith))
-
--- ════ powers of 2
-
-pub power_split : (i : ℕ) → 2 ^ (i % 8) * 2 ^ (8 * (i / 8)) ≡ 2 ^ i
-power_split i =
-    let e : i % 8 + 8 * (i / 8) ≡ i = omega arith in
-    sym (pow-add 2 (i % 8) (8 * (i / 8))) ∙ ap (λ (k : ℕ). 2 ^ k) e
-
--- the last of eight numbers
-upper_half : (i : ℕ) → (i ≡ 0 → ⊥) → (i ≡ 1 → ⊥) → (i ≡ 2 → ⊥) → (i ≡ 3 → ⊥) → 4 ≤ i
-upper_half i a b c d = omega arith
-
-last_half : (i : ℕ) → 4 ≤ i → i < 8 → (i ≡ 4 → ⊥) → (i ≡ 5 → ⊥) → (i ≡ 6 → ⊥) → i ≡ 7
-last_half i l h a b c = omega arith
-
-pub last_of_eight : (i : ℕ) → i < 8 → (i ≡ 0 → ⊥) → (i ≡ 1 → ⊥) → (i ≡ 2 → ⊥) → (i ≡ 3 → ⊥) → (i ≡ 4 → ⊥) → (i ≡ 5 → ⊥) → (i ≡ 6 → ⊥) → i ≡ 7
-last_of_eight i h a b c d e f g = last_half i (upper_half i a b c d) h e f g

@@ -8,35 +8,32 @@ ghost use Rattle.meaning.specs.Questions.{number};
 ghost use Rattle.meaning.specs.Reply.{counts_of};
 ghost use Rattle.meaning.specs.Render.{printed_line, printed_step, printed_refusal, printed_answer};
 ghost use Rattle.records.specs.Plain.{steps_of};
+ghost use Rattle.lists.specs.Report.{Countable};
 ghost use Rattle.decimals.specs.Put.{Put, field};
-ghost use Rattle.printing.specs.Lines.{Printable, plain_of};
+ghost use Rattle.printing.specs.Lines.{plain_of};
 
 use meaning::{Answer, Refusal, Step};
 
 // Puts each number of a list after a comma.
 fn put_fields(out: &mut [u8], at: usize, numbers: &[i64]) -> usize
-    requires printable { Printable numbers.now }
-    requires numbers_in_bounds { at + length (concat (map field numbers.now)) ≤ length out.old }
+    requires { at + length (concat (map field numbers.now)) ≤ length out.old }
     ensures { Put (concat (map field numbers.now)) at result out.old out.new }
 {
     let mut next = at;
-    let mut i = 0;
-    while i < numbers.len() {
-        next = decimals::put_field(out, next, numbers[i]);
-        i += 1;
+    for number in numbers {
+        next = decimals::put_field(out, next, *number);
     }
     next
 }
 
-// Puts a line: its letter, each number after a comma, and byte 10. Every line of the output is one of these.
+// Puts a line: its letter, each number after a comma, and a newline. Every line of the output is one of these.
 pub fn put_line(out: &mut [u8], at: usize, letter: u8, numbers: &[i64]) -> usize
-    requires printable { Printable numbers.now }
-    requires numbers_in_bounds { at + length (printed_line letter numbers.now) ≤ length out.old }
+    requires { at + length (printed_line letter numbers.now) ≤ length out.old }
     ensures { Put (printed_line letter numbers.now) at result out.old out.new }
 {
     let first = decimals::put_byte(out, at, letter);
     let end = put_fields(out, first, numbers);
-    decimals::put_byte(out, end, 10)
+    decimals::put_byte(out, end, b'\n')
 }
 
 // Puts the line of a refusal.
@@ -45,7 +42,7 @@ pub fn put_refusal(out: &mut [u8], at: usize, refusal: Refusal) -> usize
     ensures { Put (printed_refusal (number refusal)) at result out.old out.new }
 {
     let numbers = [meaning::number_of(refusal) as i64];
-    put_line(out, at, 82, &numbers)
+    put_line(out, at, b'R', &numbers)
 }
 
 // Puts the line of a step.
@@ -53,18 +50,18 @@ fn put_step(out: &mut [u8], at: usize, step: Step) -> usize
     requires { at + length (printed_step step) ≤ length out.old }
     ensures { Put (printed_step step) at result out.old out.new }
 {
-    let numbers = [step.first as i64, step.last as i64, step.entry as i64];
-    put_line(out, at, 83, &numbers)
+    let numbers = [step.first, step.last, step.entry].map(i64::from);
+    put_line(out, at, b'S', &numbers)
 }
 
 // Puts the line of an answer's numbers.
 fn put_counts(out: &mut [u8], at: usize, a: Answer) -> usize
-    requires printable { Printable (counts_of a) }
+    requires countable { Countable a }
     requires a_in_bounds { at + length (printed_line 65 (counts_of a)) ≤ length out.old }
     ensures { Put (printed_line 65 (counts_of a)) at result out.old out.new }
 {
     let numbers = lists::report::numbers_of(a);
-    put_line(out, at, 65, &numbers)
+    put_line(out, at, b'A', &numbers)
 }
 
 // Puts words into a row as the numbers of a line, from its beginning on.
@@ -72,10 +69,8 @@ fn widen(words: &[u16], row: &mut [i64])
     requires { length words.now ≤ length row.old }
     ensures { take (length words.now) row.new ≡ map pos words.now }
 {
-    let mut i = 0;
-    while i < words.len() {
-        row[i] = words[i] as i64;
-        i += 1;
+    for (i, word) in words.iter().enumerate() {
+        row[i] = i64::from(*word);
     }
 }
 
@@ -87,8 +82,7 @@ fn put_words(out: &mut [u8], at: usize, words: &[u16]) -> usize
 {
     let mut row = [0i64; 256];
     widen(words, &mut row);
-    let count = words.len();
-    put_line(out, at, 87, &row[..count])
+    put_line(out, at, b'W', &row[..words.len()])
 }
 
 // Puts the lines of `count` steps, which stand in `plain` as three numbers each: first, last, entry.
@@ -98,8 +92,7 @@ fn put_steps(out: &mut [u8], at: usize, plain: &[u16], count: usize) -> usize
     ensures { Put (concat (map printed_step (steps_of (plain_of plain.now count)))) at result out.old out.new }
 {
     let mut next = at;
-    let mut i = 0;
-    while i < count {
+    for i in 0..count {
         let j = i * 3;
         let step = Step {
             first: plain[j],
@@ -107,14 +100,13 @@ fn put_steps(out: &mut [u8], at: usize, plain: &[u16], count: usize) -> usize
             entry: plain[j + 2],
         };
         next = put_step(out, next, step);
-        i += 1;
     }
     next
 }
 
 // Puts a whole answer: the line of its numbers, a line for each of its steps, and the line of its target words.
 pub fn put_answer(out: &mut [u8], at: usize, a: Answer, plain: &[u16], words: &[u16]) -> usize
-    requires printable { Printable (counts_of a) }
+    requires countable { Countable a }
     requires words_len_bound { length words.now ≤ 256 }
     requires steps_in_bounds { 3 * a.steps ≤ length plain.now }
     requires words_in_bounds { at + length (printed_answer a (steps_of (plain_of plain.now a.steps)) words.now) ≤ length out.old }

@@ -1,5 +1,5 @@
 -- A proposed list of steps as numbers, three to a step, and what is asked of one step.
-use Rattle.std.specs.Prelude.{ℕ, ◌+◌, ◌*◌, ◌^◌, ◌<◌, ◌≡◌, true, List, map, ℤ, ◌+ℤ◌, get_or}
+use Rattle.std.specs.Prelude.{ℕ, ◌+◌, ◌*◌, ◌^◌, ◌<◌, ◌≡◌, true, List, map, ℤ, ◌+ℤ◌, get_or, Result, Ok, Err}
 use Rattle.laws.specs.Integers.{Within}
 use Rattle.laws.specs.Lists.{numbers_from}
 use Rattle.meaning.specs.Questions.{number}
@@ -9,10 +9,7 @@ use Rattle.meaning.specs.State.{words_covered, may_extend, next_key, gain, gain_
 use Rattle.meaning.specs.Reply.{Reply, refused, done, step_refusal}
 use Rattle.meaning.specs.declared.Step.{Step}
 use Rattle.meaning.specs.declared.State.{State}
-use Rattle.proposal.specs.declared.Asked.{Asked}
-use Rattle.proposal.specs.declared.Asked.TheVariants.{Next, Refused}
-use Rattle.proposal.specs.declared.Summed.{Summed}
-use Rattle.proposal.specs.declared.Summed.TheVariants.{Score, Refused as ListRefused}
+use Rattle.meaning.specs.declared.Refusal.{Refusal}
 
 abbrev pub step_of : ℕ → ℕ → ℕ → Step
 step_of first last entry = record { first = first; last = last; entry = entry }
@@ -38,11 +35,11 @@ pub record Follows (book : Book) (direction : List ℕ) (s : State) (step : Step
   pub ready : Bounded direction t
 
 -- the next state, or the question that refuses whatever is asked after the step
-abbrev pub AskedOf : Book → List ℕ → State → Step → Asked → Type 0
-AskedOf book direction s step (Next t) = Follows book direction s step t
-AskedOf book direction s step (Refused refusal) = (rest : ℕ) → number refusal ≡ step_refusal book direction (key_of (word_count direction) s) step rest
+abbrev pub AskedOf : Book → List ℕ → State → Step → Result State Refusal → Type 0
+AskedOf book direction s step (Ok t) = Follows book direction s step t
+AskedOf book direction s step (Err refusal) = (rest : ℕ) → number refusal ≡ step_refusal book direction (key_of (word_count direction) s) step rest
 
 -- what a list answers to 16 to 19
-abbrev pub summed_reply : Summed → Reply ℤ
-summed_reply (Score score) = done score
-summed_reply (ListRefused refusal) = refused (number refusal)
+abbrev pub summed_reply : Result ℤ Refusal → Reply ℤ
+summed_reply (Ok score) = done score
+summed_reply (Err refusal) = refused (number refusal)

@@ -1,4 +1,8 @@
 -- From the answer of a load to what a text answers.
+use Rattle.std.specs.declared.result.Result.TheVariants.{Ok, Err}
+use Rattle.std.specs.declared.result.Result.{Result}
+use Rattle.meaning.specs.declared.Refusal.{Refusal}
+use Rattle.loading.specs.declared.load.Grams.{Grams}
 use Prim.Native.Nat.{ℕ, ◌+◌}
 use native.Mathlib.Omega.{arith}
 use mathlib.Core.Path.{◌≡◌, refl, sym, ap, ◌∙◌}
@@ -13,8 +17,6 @@ use Rattle.text.specs.Walk.{text_numbers}
 use Rattle.book.specs.Survey.{no_tally, tally_from}
 use Rattle.book.proofs.Counts.{tally_is}
 use Rattle.loading.specs.Loaded.{CountedAs, Answered}
-use Rattle.loading.specs.declared.load.Loaded.{Loaded}
-use Rattle.loading.specs.declared.load.Loaded.TheVariants.{Book as Passes, Refused}
 use Rattle.reading.specs.Text.{counted_as, CheckedAs}
 
 -- the loaded book of a text that passes has two numbers more than the text
@@ -27,12 +29,12 @@ pub text_counted : (lines : List (List ℤ)) → CountedAs in_text lines true
 unfolding is_counted
 text_counted lines w b = refl
 
-pub answer_counted : (t : List ℕ) (count : ℕ) (tally : List ℕ) (book : Book) (index : List ℕ) (r : Loaded) → is_book_text t ≡ true → count ≡ 2 + length (text_numbers t) → tally ≡ tally_from no_tally (text_lines t)
+pub answer_counted : (t : List ℕ) (count : ℕ) (tally : List ℕ) (book : Book) (index : List ℕ) (r : Result Grams Refusal) → is_book_text t ≡ true → count ≡ 2 + length (text_numbers t) → tally ≡ tally_from no_tally (text_lines t)
     → Answered (lines_refusal in_text (text_lines t)) book index r → CheckedAs t (counted_as r count tally)
-answer_counted t count tally book index (Passes s) i c n a = record {
+answer_counted t count tally book index (Ok s) i c n a = record {
   passed = rw i a.passes;
   numbers_are = c ∙ sym (loaded_long t a.passes);
   phrases_are = ap (λ (x : List ℕ). get_or x 2 0) n ∙ tally_is 2 (omega arith) (omega arith) (text_lines t);
   triples_are = ap (λ (x : List ℕ). get_or x 3 0) n ∙ tally_is 3 (omega arith) (omega arith) (text_lines t);
 }
-answer_counted t count tally book index (Refused refusal) i c n a = rw i a
+answer_counted t count tally book index (Err refusal) i c n a = rw i a

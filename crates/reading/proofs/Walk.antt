@@ -11,7 +11,7 @@ use Rattle.laws.specs.Lists.{all}
 use Rattle.laws.proofs.Tests.{clash}
 use Rattle.meaning.specs.Book.{in_text, is_whole, is_book_text, text_lines}
 use Rattle.fields.specs.Scan.{Line, run, at_line, emit_line}
-use Rattle.text.specs.Walk.{text_numbers, RowRead}
+use Rattle.text.specs.Walk.{text_numbers, LineRead}
 use Rattle.text.specs.declared.TextLine.{TextLine}
 use Rattle.fields.proofs.Form.{book_text, book_run}
 use Rattle.text.proofs.Lines.{At, at_start, at_end, loaded_end}
@@ -58,19 +58,17 @@ walk_start text index row l = record {
 }
 
 -- a whole line takes some bytes
-pub row_later : {text : List ℕ} {at : ℕ} {row row' : List ℤ} {r : TextLine} → RowRead text at row row' r → r.good ≡ true → is_whole in_text (numbers_at text at) ≡ true → at < r.end
-row_later {text} {at} f g e = omega (arith, f.long g, emit_few true Line (drop at text), four_numbers in_text (numbers_at text at) e)
+pub row_later : {text : List ℕ} {at : ℕ} {row row' : List ℤ} {r : TextLine} → LineRead text at row row' r → is_whole in_text (numbers_at text at) ≡ true → at < r.end
+row_later {text} {at} f e = omega (arith, f.long, emit_few true Line (drop at text), four_numbers in_text (numbers_at text at) e)
 
-module _ {text : List ℕ} {index₀ tally index : List ℕ} {row row' : List ℤ} {acc : Survey} {count at : ℕ} (w : Walked text index₀ acc tally index row count at) (r : TextLine) (f : RowRead text at row row' r) where
+module _ {text : List ℕ} {index₀ tally index : List ℕ} {row : List ℤ} {acc : Survey} {count at : ℕ} (w : Walked text index₀ acc tally index row count at) where
   -- a line that is not good: the text is no book's
-  pub walk_bad : r.good ≡ false → is_book_text text ≡ true → all (is_whole in_text) (text_lines text) ≡ false
-  walk_bad g t =
-      clash (book_run text t)
-      (sym w.ends ∙ f.ends ∙ ap (λ (x : Bool). x && at_line (run true Line (drop r.end text))) g)
+  pub walk_bad : at_line (run true Line (drop at text)) ≡ false → is_book_text text ≡ true → all (is_whole in_text) (text_lines text) ≡ false
+  walk_bad e t = clash (book_run text t) (sym w.ends ∙ e)
 
-  module _ (h : at < length text) (g : r.good ≡ true) where
+  module _ (h : at < length text) {row' : List ℤ} (r : TextLine) (f : LineRead text at row row' r) where
     row_next : is_book_text text ≡ true → NextRow text at r.end
-    row_next t = next_row text at r.end (w.noted t).line h (f.long g)
+    row_next t = next_row text at r.end (w.noted t).line h f.long
 
     -- a line that is not whole
     pub walk_broken : is_whole in_text (numbers_at text at) ≡ false → is_book_text text ≡ true → all (is_whole in_text) (text_lines text) ≡ false
@@ -85,22 +83,22 @@ module _ {text : List ℕ} {index₀ tally index : List ℕ} {row row' : List �
         line = n.then;
         seen = seen_next p.seen w.few.each_kind n.lines;
         asked = sym (ap (all (is_whole in_text)) n.lines ∙ ap (λ (x : Bool). x && all (is_whole in_text) (text_lines (drop r.end text))) e) ∙ p.asked;
-        total = omega (arith, p.total, f.counted g, ap length n.loaded, length-append (numbers_at text at) (text_numbers (drop r.end text)));
+        total = omega (arith, p.total, f.counted, ap length n.loaded, length-append (numbers_at text at) (text_numbers (drop r.end text)));
       }
 
       -- it has four bytes at least: so even of the longest text there are not too many lines to count
-      pub walk_next : Walked text index₀ (with_line acc (numbers_at text at)) (with_kind tally (numbers_at text at)) (with_gram index (gram_count tally) (numbers_at text at)) row' (count + r.count) r.end
-      walk_next =
+      pub walk_next : length row' ≡ length row → Walked text index₀ (with_line acc (numbers_at text at)) (with_kind tally (numbers_at text at)) (with_gram index (gram_count tally) (numbers_at text at)) row' (count + r.count) r.end
+      walk_next same =
           let four = four_numbers in_text (numbers_at text at) e in
           let most = emit_few true Line (drop at text) in
           record {
-            ends = sym (f.ends ∙ ap (λ (x : Bool). x && at_line (run true Line (drop r.end text))) g) ∙ w.ends;
+            ends = sym f.ends ∙ w.ends;
             noted = noted_next;
-            within = f.within g;
-            few = few_more (few_line acc tally (numbers_at text at) (at / 2) w.few) (omega (arith, four, most, f.long g));
-            short = omega (arith, w.short, most, f.long g, f.counted g);
+            within = f.within;
+            few = few_more (few_line acc tally (numbers_at text at) (at / 2) w.few) (omega (arith, four, most, f.long));
+            short = omega (arith, w.short, most, f.long, f.counted);
             long = gram_long index (numbers_at text at) (gram_count tally) ∙ w.long;
-            places = f.same ∙ w.places;
+            places = same ∙ w.places;
           }
 
 -- at the end of a text that is not empty

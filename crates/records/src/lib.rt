@@ -42,7 +42,7 @@ pub fn with_step(p: Plain, step: Step) -> Plain
     numbers[j + 2] = step.entry;
     Plain {
         count: at + 1,
-        numbers: numbers,
+        numbers,
     }
 }
 
@@ -64,7 +64,7 @@ pub fn step_in(p: Plain, i: usize) -> Step
 pub fn at_most_33(count: usize) -> usize
     ensures { result ≡ min count 33 }
 {
-    if count <= 33 { count } else { 33 }
+    count.min(33)
 }
 
 // The first 33 of a caller's records, or all where there are fewer. Reads no record past the 33rd.
@@ -72,11 +72,8 @@ pub fn gather(steps: &[Step]) -> Plain
     ensures { Gathered result steps.now }
 {
     let mut plain = empty();
-    let end = at_most_33(steps.len());
-    let mut i = 0;
-    while i < end {
-        plain = with_step(plain, steps[i]);
-        i += 1;
+    for step in &steps[..at_most_33(steps.len())] {
+        plain = with_step(plain, *step);
     }
     plain
 }
@@ -86,9 +83,7 @@ pub fn put_all(steps: &mut [Step], plain: Plain)
     requires { (plain.count ≤ length steps.old) × (plain.count ≤ 33) }
     ensures { steps.new ≡ written_over (steps_of plain) steps.old }
 {
-    let mut k = 0;
-    while k < plain.count {
+    for k in 0..plain.count {
         steps[k] = step_in(plain, k);
-        k += 1;
     }
 }

@@ -12,31 +12,27 @@ pub struct Rows {
 }
 
 // Step i, counted from 0; where it is none, the one that stands in its place.
-pub fn step_or(rows: Rows, i: usize, old: Step) -> Step
+pub fn step_or(rows: &Rows, i: usize, old: Step) -> Step
     requires { i < 2048 }
-    ensures { result ≡ step_over (row_in rows.numbers i) old }
+    ensures { result ≡ step_over (row_in rows.now.numbers i) old }
 {
-    let numbers = rows.numbers;
     let j = i * 3;
-    if numbers[j] == 0 {
+    if rows.numbers[j] == 0 {
         return old;
     }
     Step {
-        first: numbers[j],
-        last: numbers[j + 1],
-        entry: numbers[j + 2],
+        first: rows.numbers[j],
+        last: rows.numbers[j + 1],
+        entry: rows.numbers[j + 2],
     }
 }
 
-// Writes the steps in their places among a caller's records. Where one is none, and behind them all, no record changes. The rows are handed on by value, a
-// copy for each record: 2,048 records took 0.14 ms.
+// Writes the steps in their places among a caller's records. Where one is none, and behind them all, no record changes.
 pub fn put_over(steps: &mut [Step], rows: Rows)
     requires { (rows.count ≤ length steps.old) × (rows.count ≤ 2048) }
     ensures { steps.new ≡ put_over (rows_of rows) steps.old }
 {
-    let mut k = 0;
-    while k < rows.count {
-        steps[k] = step_or(rows, k, steps[k]);
-        k += 1;
+    for k in 0..rows.count {
+        steps[k] = step_or(&rows, k, steps[k]);
     }
 }

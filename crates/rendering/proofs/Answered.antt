@@ -1,5 +1,8 @@
 -- What a decode into the program's lists answers fits the output, and what is printed of it is what the definition prints: the steps
 -- are those that stand as plain numbers, and the words stand at the beginning of the word list.
+use Rattle.std.specs.declared.result.Result.TheVariants.{Ok, Err}
+use Rattle.std.specs.declared.result.Result.{Result}
+use Rattle.meaning.specs.declared.Refusal.{Refusal}
 use Prim.Native.Nat.{ℕ}
 use native.Mathlib.Omega.{arith}
 use mathlib.Core.Path.{◌≡◌, refl, sym, ◌∙◌, ap}
@@ -10,11 +13,9 @@ use lib.Seq.{take_at}
 use Rattle.meaning.specs.Book.{book_of}
 use Rattle.meaning.specs.Derivation.{target_words}
 use Rattle.meaning.specs.Search.{answer}
-use Rattle.meaning.specs.Reply.{Lent, decoded_reply, answer_steps, decode}
+use Rattle.meaning.specs.Reply.{Lent, reply_of, answer_steps, decode}
 use Rattle.meaning.specs.Render.{printed_answer, printed_decode}
 use Rattle.meaning.specs.declared.Answer.{Answer}
-use Rattle.meaning.specs.declared.Decoded.{Decoded}
-use Rattle.meaning.specs.declared.Decoded.TheVariants.{Done, Refused}
 use Rattle.meaning.specs.declared.Step.{Step}
 use Rattle.meaning.proofs.Demands.{answered, decode_counts, decode_in_all, decode_bound}
 use Rattle.records.specs.Plain.{steps_of}
@@ -37,11 +38,11 @@ module _ (loaded : List ℤ) (direction : List ℕ) (words₀ words₁ : List �
   abbrev words : List ℕ
   words = target_words (book_of loaded) steps
 
-  replied : decoded_reply r.reply ≡ decode_off loaded direction
+  replied : reply_of r.reply ≡ decode_off loaded direction
   unfolding decode_off
   replied = D.reply_is ∙ λ i. decode loaded direction (negsuc 0) (record { steps = 32; words = w₀ i; store = s₀ i })
 
-  module _ (a : Answer) (e : r.reply ≡ Done a) where
+  module _ (a : Answer) (e : r.reply ≡ Ok a) where
     steps_are : steps_of (plain_of r.plain.numbers a.steps) ≡ steps
     steps_are = ap (λ (k : ℕ). steps_of (plain_of r.plain.numbers k)) (plain_count D e) ∙ plain_steps D e
 
@@ -65,13 +66,13 @@ module _ (loaded : List ℤ) (direction : List ℕ) (words₀ words₁ : List �
     prints : printed_done a r.plain.numbers words₁ ≡ printed_answer a steps words
     prints i = printed_answer a (steps_are i) (words_are i)
 
-  fits_by : (d : Decoded) → r.reply ≡ d → FitsDecoded d
-  fits_by (Done a) e = fits a e
-  fits_by (Refused refusal) e = tt
+  fits_by : (d : Result Answer Refusal) → r.reply ≡ d → FitsDecoded d
+  fits_by (Ok a) e = fits a e
+  fits_by (Err refusal) e = tt
 
-  prints_by : (d : Decoded) → r.reply ≡ d → printed_decoded d r.plain.numbers words₁ ≡ printed_decode loaded direction (decoded_reply d)
-  prints_by (Done a) e = prints a e
-  prints_by (Refused refusal) e = refl
+  prints_by : (d : Result Answer Refusal) → r.reply ≡ d → printed_decoded d r.plain.numbers words₁ ≡ printed_decode loaded direction (reply_of d)
+  prints_by (Ok a) e = prints a e
+  prints_by (Err refusal) e = refl
 
   pub reply_fits : FitsDecoded r.reply
   reply_fits = fits_by r.reply refl

@@ -1,4 +1,6 @@
 -- The program's own lists are long enough for every text that it takes, so its questions are those of the definition.
+use Rattle.std.specs.declared.result.Result.TheVariants.{Ok, Err}
+use Rattle.std.specs.declared.result.Result.{Result}
 use Prim.Native.Nat.{ℕ, zero, suc, ◌*◌, ◌≤◌}
 use native.Mathlib.Nat.{le_refl}
 use native.Mathlib.Omega.{arith}
@@ -15,10 +17,8 @@ use Rattle.laws.proofs.Tests.{both}
 use Rattle.meaning.specs.Questions.{◌orelse◌, number}
 use Rattle.meaning.specs.Book.{loaded_of, read_refusal}
 use Rattle.meaning.specs.Direction.{word_count, direction_numbers, direction_of, read_direction_refusal}
-use Rattle.meaning.specs.Reply.{done, reply, decode, written_if, read_reply, read_book, read_book_list, read_direction, read_direction_list}
+use Rattle.meaning.specs.Reply.{done, reply, decode, written_if, reply_of, read_book, read_book_list, read_direction, read_direction_list}
 use Rattle.meaning.specs.Render.{printed_refusal, printed_decode, rendered_after, input_refusal, render_decode, rendered}
-use Rattle.meaning.specs.declared.Read.{Read}
-use Rattle.meaning.specs.declared.Read.TheVariants.{Numbers, Refused}
 use Rattle.meaning.specs.declared.Refusal.{Refusal}
 use Rattle.meaning.proofs.Chains.{done_passes, done_is, refused_is}
 use Rattle.meaning.proofs.Demands.{numbers_to, direction_to}
@@ -46,25 +46,25 @@ filled {A} k n new old after e w =
       part = ap (take n) written ∙ take_at new (drop (length new) old) n c;
     }
 
-module _ (text : List ℕ) (read : Read) where
-  pub book_filled : (lent after : List ℤ) (n : ℕ) → read ≡ Numbers n → read_reply read ≡ read_book text (length lent) → after ≡ read_book_list text lent
+module _ (text : List ℕ) (read : Result ℕ Refusal) where
+  pub book_filled : (lent after : List ℤ) (n : ℕ) → read ≡ Ok n → reply_of read ≡ read_book text (length lent) → after ≡ read_book_list text lent
       → Filled (read_refusal text (length lent)) n (loaded_of text) after
   unfolding read_book read_book_list
-  book_filled lent after n e r w = filled (read_refusal text (length lent)) n (loaded_of text) lent after (sym (ap read_reply e) ∙ r) w
+  book_filled lent after n e r w = filled (read_refusal text (length lent)) n (loaded_of text) lent after (sym (ap reply_of e) ∙ r) w
 
-  pub direction_filled : (lent after : List ℕ) (n : ℕ) → read ≡ Numbers n → read_reply read ≡ read_direction text (length lent) → after ≡ read_direction_list text lent
+  pub direction_filled : (lent after : List ℕ) (n : ℕ) → read ≡ Ok n → reply_of read ≡ read_direction text (length lent) → after ≡ read_direction_list text lent
       → Filled (read_direction_refusal text (length lent)) n (direction_of text) after
   unfolding read_direction read_direction_list
-  direction_filled lent after n e r w = filled (read_direction_refusal text (length lent)) n (direction_of text) lent after (sym (ap read_reply e) ∙ r) w
+  direction_filled lent after n e r w = filled (read_direction_refusal text (length lent)) n (direction_of text) lent after (sym (ap reply_of e) ∙ r) w
 
-  module _ (places : ℕ) (refusal : Refusal) (e : read ≡ Refused refusal) where
-    pub book_refusal_lem : read_reply read ≡ read_book text places → read_refusal text places ≡ number refusal
+  module _ (places : ℕ) (refusal : Refusal) (e : read ≡ Err refusal) where
+    pub book_refusal_lem : reply_of read ≡ read_book text places → read_refusal text places ≡ number refusal
     unfolding read_book
-    book_refusal_lem r = refused_is (read_refusal text places) (number refusal) (length (loaded_of text)) (sym r ∙ ap read_reply e)
+    book_refusal_lem r = refused_is (read_refusal text places) (number refusal) (length (loaded_of text)) (sym r ∙ ap reply_of e)
 
-    pub direction_refusal : read_reply read ≡ read_direction text places → read_direction_refusal text places ≡ number refusal
+    pub direction_refusal : reply_of read ≡ read_direction text places → read_direction_refusal text places ≡ number refusal
     unfolding read_direction
-    direction_refusal r = refused_is (read_direction_refusal text places) (number refusal) (length (direction_of text)) (sym r ∙ ap read_reply e)
+    direction_refusal r = refused_is (read_direction_refusal text places) (number refusal) (length (direction_of text)) (sym r ∙ ap reply_of e)
 
 -- ════ the lists' lengths
 

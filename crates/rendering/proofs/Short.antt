@@ -1,28 +1,20 @@
--- An answer to at most 32 words can be printed, in at most 4,096 bytes; and what the program prints is no longer than the list that it is put into.
+-- An answer to at most 32 words is printed in at most 4,096 bytes; and what the program prints is no longer than the list that it is put into.
 use Prim.Native.Nat.{ℕ, ◌≤◌, ◌<◌}
 use native.Mathlib.Omega.{arith}
 use mathlib.Core.Path.{◌≡◌, sym, ap, ◌∙◌, subst}
 use mathlib.Core.List.{List, Memᴰ}
 use lib.ListN.{length, get_or, take, drop, length-take, length-append}
 use lib.Seq.{get_or-take}
-use Rattle.laws.proofs.Bounds.{within_mono}
 use Rattle.laws.proofs.Lists.{mem_get_d}
 use Rattle.meaning.specs.Bounds.{word_span}
-use Rattle.meaning.specs.Reply.{written_over, counts_of}
+use Rattle.meaning.specs.Reply.{written_over}
 use Rattle.meaning.specs.Render.{rendered}
 use Rattle.meaning.specs.declared.Answer.{Answer}
 use Rattle.records.proofs.Laws.{count_steps}
 use Rattle.records.specs.Plain.{steps_of}
-use Rattle.printing.specs.Lines.{Printable, plain_of}
-use Rattle.printing.proofs.Numbers.{none_put, and_put, nat_put}
+use Rattle.printing.specs.Lines.{plain_of}
 use Rattle.printing.proofs.Lengths.{answer_short, steps_small}
 use Rattle.rendering.specs.Parts.{Fits, printed_done}
-
--- the numbers of its first line can be put
-pub done_printable : (a : Answer) → Fits a → Printable (counts_of a)
-done_printable a f =
-    and_put (within_mono (omega arith) f.score) (and_put (nat_put _ (omega (arith, f.steps))) (and_put (nat_put _ (omega (arith, f.words))) (and_put (nat_put _ (omega (arith, f.states)))
-    (and_put (nat_put _ (omega (arith, f.in_all_lem, f.words))) (and_put (nat_put _ (omega (arith, f.in_all_lem, f.words))) (and_put (nat_put _ (omega (arith, f.in_all_lem, f.words))) (and_put (nat_put _ (omega (arith, f.in_all_lem, f.words))) none_put)))))))
 
 -- the numbers of an answer are of 16 bits
 pub done_short : (a : Answer) (numbers words : List ℕ) → Fits a → ((i : ℕ) → get_or numbers i 0 < word_span) → ((i : ℕ) → get_or words i 0 < word_span)

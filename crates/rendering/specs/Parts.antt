@@ -1,4 +1,7 @@
 -- What the parts of the rendering program ensure, in terms of the lists that they lend.
+use Rattle.std.specs.declared.result.Result.TheVariants.{Ok, Err}
+use Rattle.std.specs.declared.result.Result.{Result}
+use Rattle.meaning.specs.declared.Refusal.{Refusal}
 use Rattle.std.specs.Prelude.{ℕ, zero, suc, ◌≤◌, ◌≡◌, List, ℤ, negsuc, take}
 use Rattle.laws.specs.Integers.{Within}
 use Rattle.meaning.specs.Questions.{number}
@@ -8,8 +11,6 @@ use Rattle.meaning.specs.State.{score_bound}
 use Rattle.meaning.specs.Reply.{Reply, decode}
 use Rattle.meaning.specs.Render.{printed_refusal, printed_answer, printed_decode}
 use Rattle.meaning.specs.declared.Answer.{Answer}
-use Rattle.meaning.specs.declared.Decoded.{Decoded}
-use Rattle.meaning.specs.declared.Decoded.TheVariants.{Done, Refused}
 use Rattle.records.specs.Plain.{steps_of}
 use Rattle.printing.specs.Lines.{plain_of}
 
@@ -17,9 +18,9 @@ use Rattle.printing.specs.Lines.{plain_of}
 abbrev pub printed_done : Answer → List ℕ → List ℕ → List ℕ
 printed_done a numbers words = printed_answer a (steps_of (plain_of numbers a.steps)) (take a.words words)
 
-abbrev pub printed_decoded : Decoded → List ℕ → List ℕ → List ℕ
-printed_decoded (Done a) numbers words = printed_done a numbers words
-printed_decoded (Refused refusal) numbers words = printed_refusal (number refusal)
+abbrev pub printed_decoded : Result Answer Refusal → List ℕ → List ℕ → List ℕ
+printed_decoded (Ok a) numbers words = printed_done a numbers words
+printed_decoded (Err refusal) numbers words = printed_refusal (number refusal)
 
 -- an answer to at most 32 words, from a store of 512 states
 pub record Fits (a : Answer) : Type 0 where
@@ -29,9 +30,9 @@ pub record Fits (a : Answer) : Type 0 where
   pub states : a.states ≤ 512
   pub in_all_lem : in_all a.supplied ≡ a.words
 
-abbrev pub FitsDecoded : Decoded → Type 0
-FitsDecoded (Done a) = Fits a
-FitsDecoded (Refused refusal) = Unit {0}
+abbrev pub FitsDecoded : Result Answer Refusal → Type 0
+FitsDecoded (Ok a) = Fits a
+FitsDecoded (Err refusal) = Unit {0}
 
 -- "decodes with pruning off, a store of 512 states", and lists that are long enough for 32 words
 unfoldable pub decode_off : List ℤ → List ℕ → Reply Answer

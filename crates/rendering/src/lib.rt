@@ -8,7 +8,7 @@ ghost use Rattle.meaning.specs.Render.{printed_decode, rendered};
 ghost use Rattle.decimals.specs.Put.{Put};
 ghost use Rattle.rendering.specs.Parts.{Fits, FitsDecoded, printed_done, printed_decoded, decode_off, printed_read};
 
-use meaning::{Answer, Decoded, Read, Refusal};
+use meaning::{Answer, Refusal};
 
 // Whether neither input has more bytes than the program takes.
 fn are_short(book: &[u8], direction: &[u8]) -> bool
@@ -30,7 +30,12 @@ fn put_done(out: &mut [u8], answer: Answer, numbers: &[u16], words: &[u16]) -> u
 }
 
 // Puts what a decode replied.
-fn put_decoded(out: &mut [u8], decoded: Decoded, numbers: &[u16], words: &[u16]) -> usize
+fn put_decoded(
+    out: &mut [u8],
+    decoded: Result<Answer, Refusal>,
+    numbers: &[u16],
+    words: &[u16],
+) -> usize
     requires in_bounds { 4_096 ≤ length out.old }
     requires fits_decoded { FitsDecoded decoded }
     requires in_bounds_2 { 96 ≤ length numbers.now }
@@ -38,8 +43,8 @@ fn put_decoded(out: &mut [u8], decoded: Decoded, numbers: &[u16], words: &[u16])
     ensures { Put (printed_decoded decoded numbers.now words.now) 0 result out.old out.new }
 {
     match decoded {
-        Decoded::Done(answer) => put_done(out, answer, numbers, words),
-        Decoded::Refused(refusal) => printing::put_refusal(out, 0, refusal),
+        Ok(answer) => put_done(out, answer, numbers, words),
+        Err(refusal) => printing::put_refusal(out, 0, refusal),
     }
 }
 
@@ -63,8 +68,8 @@ fn put_direction(out: &mut [u8], book: &[i32], text: &[u8]) -> usize
 {
     let mut words = [0u16; 32];
     match direction::read_direction(text, &mut words) {
-        Read::Numbers(n) => put_decode(out, book, &words[..n]),
-        Read::Refused(refusal) => printing::put_refusal(out, 0, refusal),
+        Ok(n) => put_decode(out, book, &words[..n]),
+        Err(refusal) => printing::put_refusal(out, 0, refusal),
     }
 }
 
@@ -79,7 +84,7 @@ pub fn render(book: &[u8], direction: &[u8], out: &mut [u8; 4096]) -> usize
     }
     let mut loaded = [0i32; 8192];
     match reading::read_book(book, &mut loaded) {
-        Read::Numbers(n) => put_direction(out, &loaded[..n], direction),
-        Read::Refused(refusal) => printing::put_refusal(out, 0, refusal),
+        Ok(n) => put_direction(out, &loaded[..n], direction),
+        Err(refusal) => printing::put_refusal(out, 0, refusal),
     }
 }

@@ -4,19 +4,19 @@
 
 ghost use Rattle.std.specs.Prelude.{◌≡◌, ◌&&◌, ◌≤◌, pos, length, set};
 ghost use Rattle.meaning.specs.Book.{in_list, phrases_most, is_p, is_whole};
-ghost use Rattle.meaning.specs.Reply.{reply, checked_reply, read_reply, written_over};
+ghost use Rattle.meaning.specs.Reply.{reply, reply_of, reply_of, written_over};
 ghost use Rattle.meaning.specs.Revision.{in_use_refusal, line_refusal, add_refusal, added, add_entry, add_entry_list, remove_entry, remove_entry_list};
 
 use book::{loaded, target};
 use loading::check;
-use meaning::{Checked, Read, Refusal};
+use meaning::Refusal;
 
 // Question 7 of the numbers in use, before all else; then the questions of the book.
-fn check_in_use(list: &[i32], used: usize) -> Checked
-    ensures { checked_reply result ≡ reply (in_use_refusal list.now used) tt }
+fn check_in_use(list: &[i32], used: usize) -> Result<(), Refusal>
+    ensures { reply_of result ≡ reply (in_use_refusal list.now used) tt }
 {
     if list.len() < used {
-        return Checked::Refused(Refusal::ListTooShort);
+        return Err(Refusal::ListTooShort);
     }
     check::check_book(&list[..used])
 }
@@ -25,40 +25,35 @@ fn check_in_use(list: &[i32], used: usize) -> Checked
 fn is_entry(line: &[i32]) -> bool
     ensures { result ≡ is_p line.now && is_whole in_list line.now }
 {
-    if !lines::is_kind(line, 2) {
-        return false;
-    }
-    lines::is_whole(line, lines::B_IN_LIST)
+    lines::is_kind(line, 2) && lines::is_whole(line, lines::B_IN_LIST)
 }
 
 // What the line answers once the book has passed: 2, 4, 5 and 7. How many P lines there are already is stored in the B record.
-fn check_line(list: &[i32], used: usize, line: &[i32]) -> Checked
+fn check_line(list: &[i32], used: usize, line: &[i32]) -> Result<(), Refusal>
     requires { in_use_refusal list.now used ≡ 0 }
-    ensures { checked_reply result ≡ reply (line_refusal list.now used line.now) tt }
+    ensures { reply_of result ≡ reply (line_refusal list.now used line.now) tt }
 {
     if !is_entry(line) {
-        return Checked::Refused(Refusal::LineFields);
+        return Err(Refusal::LineFields);
     }
     if !lines::ranges_p(line) {
-        return Checked::Refused(Refusal::NumberRange);
+        return Err(Refusal::NumberRange);
     }
     if lines::PHRASES_MOST <= lines::natural_at(list, lines::B_IN_TEXT) {
-        return Checked::Refused(Refusal::LineCount);
+        return Err(Refusal::LineCount);
     }
     if list.len() - used < line.len() {
-        return Checked::Refused(Refusal::ListTooShort);
+        return Err(Refusal::ListTooShort);
     }
-    Checked::Passed
+    Ok(())
 }
 
 // All questions of an addition.
-fn check_addition(list: &[i32], used: usize, line: &[i32]) -> Checked
-    ensures { checked_reply result ≡ reply (add_refusal list.now used line.now) tt }
+fn check_addition(list: &[i32], used: usize, line: &[i32]) -> Result<(), Refusal>
+    ensures { reply_of result ≡ reply (add_refusal list.now used line.now) tt }
 {
-    match check_in_use(list, used) {
-        Checked::Passed => check_line(list, used, line),
-        Checked::Refused(refusal) => Checked::Refused(refusal),
-    }
+    check_in_use(list, used)?;
+    check_line(list, used, line)
 }
 
 // Stores how many P lines there are, in the B record.
@@ -80,44 +75,37 @@ fn put_entry(list: &mut [i32], used: usize, line: &[i32])
 }
 
 // Adds a P line, given as loaded numbers, after the last line; how many numbers are then in use. A refusal changes nothing.
-pub fn add_entry(list: &mut [i32], used: usize, line: &[i32]) -> Read
-    ensures result_value { read_reply result ≡ add_entry list.old used line.now }
+pub fn add_entry(list: &mut [i32], used: usize, line: &[i32]) -> Result<usize, Refusal>
+    ensures result_value { reply_of result ≡ add_entry list.old used line.now }
     ensures list_after { list.new ≡ add_entry_list list.old used line.now }
 {
-    match check_addition(list, used, line) {
-        Checked::Passed => {
-            put_entry(list, used, line);
-            Read::Numbers(used + line.len())
-        }
-        Checked::Refused(refusal) => Read::Refused(refusal),
-    }
+    check_addition(list, used, line)?;
+    put_entry(list, used, line);
+    Ok(used + line.len())
 }
 
 // Question 22, of a book that passed; then the entry is taken out and no longer counted.
-fn take_entry(list: &mut [i32], used: usize, entry: usize) -> Read
+fn take_entry(list: &mut [i32], used: usize, entry: usize) -> Result<usize, Refusal>
     requires { in_use_refusal list.old used ≡ 0 }
-    ensures result_value { read_reply result ≡ remove_entry list.old used entry }
+    ensures result_value { reply_of result ≡ remove_entry list.old used entry }
     ensures list_after { list.new ≡ remove_entry_list list.old used entry }
 {
-    let at = target::find_entry(&list[..used], entry);
-    if used <= at {
-        return Read::Refused(Refusal::AbsentEntry);
-    }
+    let Some(at) = target::find_entry(&list[..used], entry) else {
+        return Err(Refusal::AbsentEntry);
+    };
     let size = loaded::size_at(&list[..used], at);
     let count = lines::natural_at(list, lines::B_IN_TEXT);
     moves::take_out(&mut list[at..used], size);
     put_count(list, count - 1);
-    Read::Numbers(used - size)
+    Ok(used - size)
 }
 
 // Removes entry `entry`, counted from 1: later lines move down, and zeros stand where they leave places; how many numbers are then in use. A refusal
 // changes nothing.
-pub fn remove_entry(list: &mut [i32], used: usize, entry: usize) -> Read
-    ensures result_value { read_reply result ≡ remove_entry list.old used entry }
+pub fn remove_entry(list: &mut [i32], used: usize, entry: usize) -> Result<usize, Refusal>
+    ensures result_value { reply_of result ≡ remove_entry list.old used entry }
     ensures list_after { list.new ≡ remove_entry_list list.old used entry }
 {
-    match check_in_use(list, used) {
-        Checked::Passed => take_entry(list, used, entry),
-        Checked::Refused(refusal) => Read::Refused(refusal),
-    }
+    check_in_use(list, used)?;
+    take_entry(list, used, entry)
 }

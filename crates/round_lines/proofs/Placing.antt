@@ -1,4 +1,7 @@
 -- A line's text, read into 32 places of a list: 7 is never the answer, as 9 comes before it, and the words stand behind those before them.
+use Rattle.std.specs.declared.result.Result.TheVariants.{Ok, Err}
+use Rattle.std.specs.declared.result.Result.{Result}
+use Rattle.meaning.specs.declared.Refusal.{Refusal}
 use Prim.Native.Nat.{ℕ, ◌+◌, ◌-◌, ◌≤◌}
 use native.Mathlib.Omega.{arith}
 use mathlib.Core.Path.{◌≡◌, sym, ◌∙◌, ap}
@@ -13,9 +16,7 @@ use Rattle.laws.specs.Lists.{all}
 use Rattle.laws.proofs.Tests.{between}
 use Rattle.meaning.specs.Questions.{◌unless◌, ◌orelse◌, within, number}
 use Rattle.meaning.specs.Direction.{is_direction_word, direction_numbers, numbers_refusal, direction_of, read_direction_refusal, is_direction_text}
-use Rattle.meaning.specs.Reply.{done, read_reply, read_direction, read_direction_list}
-use Rattle.meaning.specs.declared.Read.{Read}
-use Rattle.meaning.specs.declared.Read.TheVariants.{Numbers, Refused}
+use Rattle.meaning.specs.Reply.{done, reply_of, read_direction, read_direction_list}
 use Rattle.meaning.proofs.Chains.{first_passes, rest_passes, test_passes, done_passes, done_is, refused_is, written_done}
 use Rattle.meaning.proofs.Demands.{numbers_to}
 use Rattle.meaning.proofs.Rooms.{direction_room}
@@ -75,7 +76,7 @@ module _ (text : List ℕ) (at : ℕ) (old : List ℕ) (room : at + 32 ≤ lengt
               ∙ take_at (take at old ++ ds) (rest ++ drop (at + 32 - at) (drop at old)) (at + n) (omega (arith, length-append (take at old) ds, before, c));
         }
 
-    pub placed : (read : Read) → read_reply read ≡ read_direction text (length part) → new ≡ read_direction_list text part → PlacedAt read text at old (put_mid at (at + 32 - at) old new)
+    pub placed : (read : Result ℕ Refusal) → reply_of read ≡ read_direction text (length part) → new ≡ read_direction_list text part → PlacedAt read text at old (put_mid at (at + 32 - at) old new)
     unfolding read_direction
-    placed (Numbers n) r w = numbers_placed n r w
-    placed (Refused refusal) r w = sym (places text) ∙ ap (read_direction_refusal text) (sym part_long) ∙ refused_is (read_direction_refusal text (length part)) (number refusal) (length (direction_of text)) (sym r)
+    placed (Ok n) r w = numbers_placed n r w
+    placed (Err refusal) r w = sym (places text) ∙ ap (read_direction_refusal text) (sym part_long) ∙ refused_is (read_direction_refusal text (length part)) (number refusal) (length (direction_of text)) (sym r)

@@ -1,103 +1,90 @@
--- Each line in turn: what is read is some of the lines, and the rest of the text has the others.
-use Prim.Native.Nat.{ℕ, zero, suc, ◌+◌, ◌-◌, ◌≤◌, ◌<◌}
+-- Each line in turn: the first of them are read, and the others are left.
+use Prim.Native.Nat.{ℕ, zero, suc, ◌+◌, ◌≤◌, ◌<◌}
 use native.Mathlib.Numerals.{add-one}
 use native.Mathlib.Omega.{arith}
 use mathlib.Core.Path.{◌≡◌, refl, sym, ◌∙◌, ap}
 use mathlib.Core.Bool.{true}
-use mathlib.Core.List.{List, [], ◌∷◌, ◌++◌, map, map-append, append_assoc, append-nil}
-use lib.ListN.{length, take, drop, set, length-set, length-append, length-map, drop_of_length-le}
-use lib.Seq.{take-suc-set}
+use mathlib.Core.List.{List, [], ◌∷◌, ◌++◌, map, map-append}
+use lib.ListN.{length, get_or, take, drop, set, length-set, length-map, drop_of_length-le}
+use lib.Seq.{take-suc-set, take_all, length-take-le}
+use Rattle.laws.proofs.Lists.{take_next, drop_next}
 use Rattle.laws.proofs.Tests.{between}
 use Rattle.meaning.specs.Questions.{◌orelse◌, within, number}
 use Rattle.meaning.specs.Direction.{direction_of, read_direction_refusal}
-use Rattle.meaning.specs.Sheet.{direction_texts, texts_refusal}
+use Rattle.meaning.specs.Sheet.{texts_refusal}
 use Rattle.meaning.specs.declared.Refusal.{Refusal}
 use Rattle.meaning.proofs.Numbered.{number_from}
-use Rattle.round_lines.specs.Lines.{LineAt, Placed, AllRead}
+use Rattle.round_lines.specs.Lines.{Placed, AllRead}
 use Rattle.round_lines.proofs.Standing.{Standing, none_stand, one_stands, stand_right, stand_are}
-
-pub no_texts : (text : List ℕ) (from : ℕ) → length text ≤ from → direction_texts (drop from text) ≡ []
-unfolding direction_texts
-no_texts text from h = rw (drop_of_length-le text {i = from} h)
 
 refused_first : (k m j : ℕ) → k ≡ j → 1 ≤ j → k orelse m ≡ j
 refused_first zero m j e h = absurd (omega arith)
 refused_first (suc k) m j e h = e
 
--- the lines up to `from` are read: n of them, up to `at` in the list
-pub record Reads (text directions₀ ends₀ directions ends : List ℕ) (n at from : ℕ) : Type 0 where
-  pub done : List (List ℕ)
-  pub lines : done ++ direction_texts (drop from text) ≡ direction_texts text
-  pub left : texts_refusal (direction_texts (drop from text)) ≡ texts_refusal (direction_texts text)
-  pub counted : n ≡ length done
-  pub standing : Standing (map direction_of done) at directions (take n ends)
-  pub reached : from ≤ length text
-  pub same : length directions ≡ length directions₀
-  pub same_ends : length ends ≡ length ends₀
+-- n lines are read, up to `at` in the list
+pub record Reads (texts : List (List ℕ)) (directions ends : List ℕ) (n at : ℕ) : Type 0 where
+  pub many : within 1 64 (length texts) ≡ true
+  pub left : texts_refusal (drop n texts) ≡ texts_refusal texts
+  pub standing : Standing (map direction_of (take n texts)) at directions (take n ends)
+  pub room : 2_048 ≤ length directions
+  pub room_ends : 64 ≤ length ends
 
--- 1 to 64 lines, and lists for as many
-module _ (text directions₀ ends₀ : List ℕ) (pre : (within 1 64 (length (direction_texts text)) ≡ true) × ((2_048 ≤ length directions₀) × (64 ≤ length ends₀))) where
-  pub reads_begin : Reads text directions₀ ends₀ directions₀ ends₀ 0 0 0
-  reads_begin = record { done = []; lines = refl; left = refl; counted = refl; standing = none_stand directions₀; reached = omega arith; same = refl; same_ends = refl }
+module _ {texts : List (List ℕ)} where
+  pub reads_begin : {directions ends : List ℕ} → within 1 64 (length texts) ≡ true → 2_048 ≤ length directions → 64 ≤ length ends → Reads texts directions ends 0 0
+  reads_begin {directions} many room room_ends = record { many = many; left = refl; standing = none_stand directions; room = room; room_ends = room_ends }
 
-  module _ {directions ends : List ℕ} {n at from : ℕ} (r : Reads text directions₀ ends₀ directions ends n at from) where
-    abbrev words : ℕ
-    words = length (map direction_of r.done)
-
-    -- a line is left
-    module _ {end : ℕ} (l : LineAt text from end) where
-      abbrev line : List ℕ
-      line = take (end - from) (drop from text)
-
+  module _ {directions ends : List ℕ} {n at : ℕ} (r : Reads texts directions ends n at) where
+    -- line n is left
+    module _ {line : List ℕ} (h : n < length texts) (e : line ≡ get_or texts n line) where
       abbrev others : List (List ℕ)
-      others = direction_texts (drop end text)
+      others = drop (n + 1) texts
 
-      parted : r.done ++ (line ∷ others) ≡ direction_texts text
-      parted = ap (λ (ls : List (List ℕ)). r.done ++ ls) (sym l.line) ∙ r.lines
+      line_next : drop n texts ≡ line ∷ others
+      line_next = drop_next texts n line h ∙ ap (λ (x : List ℕ). x ∷ others) (sym e)
+
+      line_last : take (n + 1) texts ≡ take n texts ++ (line ∷ [])
+      line_last = take_next texts n line h ∙ ap (λ (x : List ℕ). take n texts ++ (x ∷ [])) (sym e)
 
       pub reads_few : n < 64
-      reads_few = omega (arith, ap length parted, length-append r.done (line ∷ others), r.counted, (between 1 64 (length (direction_texts text)) pre.0).1)
+      reads_few = omega (arith, (between 1 64 (length texts) r.many).1)
 
       pub reads_small : at + 32 ≤ 2_048
-      reads_small = omega (arith, reads_few, r.standing.few, length-map r.done direction_of, r.counted)
+      reads_small = omega (arith, reads_few, r.standing.few, length-map (take n texts) direction_of, length-take-le n texts (omega arith))
 
       pub reads_room : at + 32 ≤ length directions
-      reads_room = omega (arith, reads_small, r.same, pre.1.0)
+      reads_room = omega (arith, reads_small, r.room)
 
       pub reads_place : n < length ends
-      reads_place = omega (arith, reads_few, r.same_ends, pre.1.1)
+      reads_place = omega (arith, reads_few, r.room_ends)
 
-      refusals : texts_refusal (line ∷ others) ≡ texts_refusal (direction_texts text)
-      refusals = ap texts_refusal (sym l.line) ∙ r.left
+      refusals : texts_refusal (line ∷ others) ≡ texts_refusal texts
+      refusals = ap texts_refusal (sym line_next) ∙ r.left
 
-      pub reads_refused : (refusal : Refusal) → read_direction_refusal line (length (direction_of line)) ≡ number refusal → texts_refusal (direction_texts text) ≡ number refusal
+      pub reads_refused : (refusal : Refusal) → read_direction_refusal line (length (direction_of line)) ≡ number refusal → texts_refusal texts ≡ number refusal
       reads_refused refusal e = sym refusals ∙ refused_first (read_direction_refusal line (length (direction_of line))) (texts_refusal others) (number refusal) e (number_from refusal)
 
-      pub reads_next : {count : ℕ} {new : List ℕ} → Placed line count at directions new → length new ≡ length directions → Reads text directions₀ ends₀ new (set ends n (at + count)) (n + 1) (at + count) end
+      pub reads_next : {count : ℕ} {new : List ℕ} → Placed line count at directions new → length new ≡ length directions → Reads texts new (set ends n (at + count)) (n + 1) (at + count)
       reads_next {count} {new} p same =
           let stand = one_stands line r.standing p in
-          let words_are : map direction_of r.done ++ (direction_of line ∷ []) ≡ map direction_of (r.done ++ (line ∷ [])) = sym (map-append direction_of r.done (line ∷ [])) in
+          let words_are : map direction_of (take n texts) ++ (direction_of line ∷ []) ≡ map direction_of (take (n + 1) texts) = sym (ap (map direction_of) line_last ∙ map-append direction_of (take n texts) (line ∷ [])) in
           let ends_are : take n ends ++ ((at + count) ∷ []) ≡ take (n + 1) (set ends n (at + count)) = sym (ap (λ (k : ℕ). take k (set ends n (at + count))) (add-one n) ∙ take-suc-set ends n (at + count) reads_place) in
           record {
-            done = r.done ++ (line ∷ []);
-            lines = append_assoc r.done (line ∷ []) others ∙ parted;
+            many = r.many;
             left = ap (λ (k : ℕ). k orelse texts_refusal others) (sym p.passes) ∙ refusals;
-            counted = omega (arith, length-append r.done (line ∷ []), r.counted);
             standing = rw (sym words_are, sym ends_are) stand;
-            reached = l.inside;
-            same = same ∙ r.same;
-            same_ends = length-set ends n (at + count) ∙ r.same_ends;
+            room = omega (arith, same, r.room);
+            room_ends = omega (arith, length-set ends n (at + count), r.room_ends);
           }
 
     -- no line is left
-    pub reads_end : length text ≤ from → AllRead (direction_texts text) n directions (take n ends)
+    pub reads_end : n ≡ length texts → AllRead texts n directions (take n ends)
     reads_end h =
-        let none = no_texts text from h in
-        let all_done : r.done ≡ direction_texts text = sym (append-nil r.done) ∙ ap (λ (ls : List (List ℕ)). r.done ++ ls) (sym none) ∙ r.lines in
-        let many : within 1 64 words ≡ true = ap (within 1 64) (length-map r.done direction_of ∙ ap length all_done) ∙ pre.0 in
+        let all_done : take n texts ≡ texts = take_all n texts (omega arith) in
+        let none : drop n texts ≡ [] = drop_of_length-le texts {i = n} (omega arith) in
+        let many : within 1 64 (length (map direction_of (take n texts))) ≡ true = ap (within 1 64) (length-map (take n texts) direction_of ∙ ap length all_done) ∙ r.many in
         record {
           passes = sym r.left ∙ ap texts_refusal none;
-          counted = r.counted ∙ ap length all_done;
-          right = stand_right r.standing many (omega (arith, (between 1 64 words many).1, r.standing.few, r.same, pre.1.0));
+          counted = h;
+          right = stand_right r.standing many (omega (arith, (between 1 64 (length (map direction_of (take n texts))) many).1, r.standing.few, r.room));
           are = stand_are r.standing ∙ ap (map direction_of) all_done;
         }

@@ -1,17 +1,12 @@
 -- What is read of a text that has a direction on each line.
-use Rattle.std.specs.Prelude.{ℕ, ◌+◌, ◌-◌, ◌≤◌, ◌<◌, ◌≡◌, true, List, ◌∷◌, ◌++◌, map, length, take, drop}
+use Rattle.std.specs.declared.result.Result.TheVariants.{Ok, Err}
+use Rattle.std.specs.declared.result.Result.{Result}
+use Rattle.meaning.specs.declared.Refusal.{Refusal}
+use Rattle.std.specs.Prelude.{ℕ, ◌+◌, ◌≤◌, ◌≡◌, true, List, ◌++◌, map, length, take}
 use Rattle.meaning.specs.Questions.{number}
 use Rattle.meaning.specs.Direction.{direction_of, read_direction_refusal}
 use Rattle.meaning.specs.Round.{are_ends, directions_of}
-use Rattle.meaning.specs.Sheet.{direction_texts, texts_refusal}
-use Rattle.meaning.specs.declared.Read.{Read}
-use Rattle.meaning.specs.declared.Read.TheVariants.{Numbers, Refused}
-
--- the line that begins at `from` ends at `end`
-pub record LineAt (text : List ℕ) (from end : ℕ) : Type 0 where
-  pub line : direction_texts (drop from text) ≡ take (end - from) (drop from text) ∷ direction_texts (drop end text)
-  pub longer : from < end
-  pub inside : end ≤ length text
+use Rattle.meaning.specs.Sheet.{texts_refusal}
 
 -- a direction's text was read, and its `count` words stand from `at` on
 pub record Placed (text : List ℕ) (count at : ℕ) (old new : List ℕ) : Type 0 where
@@ -22,9 +17,9 @@ pub record Placed (text : List ℕ) (count at : ℕ) (old new : List ℕ) : Type
   pub words : take (at + count) new ≡ take at old ++ direction_of text
 
 -- a line's own, by the reply
-abbrev pub PlacedAt : Read → List ℕ → ℕ → List ℕ → List ℕ → Type 0
-PlacedAt (Numbers count) text at old new = Placed text count at old new
-PlacedAt (Refused refusal) text at old new = read_direction_refusal text (length (direction_of text)) ≡ number refusal
+abbrev pub PlacedAt : Result ℕ Refusal → List ℕ → ℕ → List ℕ → List ℕ → Type 0
+PlacedAt (Ok count) text at old new = Placed text count at old new
+PlacedAt (Err refusal) text at old new = read_direction_refusal text (length (direction_of text)) ≡ number refusal
 
 -- every line was read: each is a direction of the round that the list and the ends make
 pub record AllRead (texts : List (List ℕ)) (count : ℕ) (directions ends : List ℕ) : Type 0 where
@@ -34,6 +29,6 @@ pub record AllRead (texts : List (List ℕ)) (count : ℕ) (directions ends : Li
   pub are : directions_of directions ends ≡ map direction_of texts
 
 -- by the reply; a refusal is that of the first line that is refused
-abbrev pub LinesRead : Read → List (List ℕ) → List ℕ → List ℕ → Type 0
-LinesRead (Numbers count) texts directions ends = AllRead texts count directions (take count ends)
-LinesRead (Refused refusal) texts directions ends = texts_refusal texts ≡ number refusal
+abbrev pub LinesRead : Result ℕ Refusal → List (List ℕ) → List ℕ → List ℕ → Type 0
+LinesRead (Ok count) texts directions ends = AllRead texts count directions (take count ends)
+LinesRead (Err refusal) texts directions ends = texts_refusal texts ≡ number refusal

@@ -1,4 +1,7 @@
 -- The counts of an answer fit a signed number.
+use Rattle.std.specs.declared.result.Result.TheVariants.{Ok, Err}
+use Rattle.std.specs.declared.result.Result.{Result}
+use Rattle.meaning.specs.declared.Refusal.{Refusal}
 use Prim.Native.Nat.{ℕ, ◌<◌}
 use native.Mathlib.Omega.{arith}
 use mathlib.Core.Path.{◌≡◌, refl}
@@ -7,8 +10,6 @@ use lib.IntN.{ℤ}
 use lib.ListN.{length}
 use Rattle.meaning.specs.Reply.{done, Lent, decode_refusal, decode}
 use Rattle.meaning.specs.declared.Answer.{Answer}
-use Rattle.meaning.specs.declared.Decoded.{Decoded}
-use Rattle.meaning.specs.declared.Decoded.TheVariants.{Done, Refused}
 use Rattle.meaning.proofs.Chains.{done_passes}
 use Rattle.meaning.proofs.Lengths.{found_room}
 use Rattle.meaning.proofs.Demands.{answered, decode_counts, decode_in_all}
@@ -28,7 +29,7 @@ module _ (loaded : List ℤ) (direction : List ℕ) (width : ℤ) (room : ℕ) (
   unfolding decode
   passed a d = done_passes (decode_refusal loaded direction width lent) _ a d
 
-  pub countable : (a : Answer) → core.reply ≡ Done a → Countable a
+  pub countable : (a : Answer) → core.reply ≡ Ok a → Countable a
   countable a e =
       let d : decode loaded direction width lent ≡ done a = plain_decoded D e in
       let f = answered loaded direction width lent a d in
@@ -44,6 +45,6 @@ module _ (loaded : List ℤ) (direction : List ℕ) (width : ℤ) (room : ℕ) (
   pub all_countable : AllCountable core.reply
   all_countable = by core.reply refl
     where
-      by : (reply : Decoded) → core.reply ≡ reply → AllCountable reply
-      by (Done a) e = countable a e
-      by (Refused refusal) e = tt
+      by : (reply : Result Answer Refusal) → core.reply ≡ reply → AllCountable reply
+      by (Ok a) e = countable a e
+      by (Err refusal) e = tt

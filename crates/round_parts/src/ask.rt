@@ -4,8 +4,8 @@ ghost use Rattle.meaning.specs.Questions.{within};
 ghost use Rattle.book.specs.Entries.{index_size};
 ghost use Rattle.round_parts.specs.Asked.{are_rising_to, behind_book, CheckedBy, OpenedFor};
 
-use meaning::{Checked, Refusal};
-use opening::Opened;
+use meaning::Refusal;
+use opening::Counts;
 
 // Above the end before, and not past a list of `most` words.
 fn is_end(before: usize, end: usize, most: usize) -> bool
@@ -19,14 +19,11 @@ fn are_rising(ends: &[usize], most: usize) -> bool
     ensures { result ≡ are_rising_to most 0 ends.now }
 {
     let mut before = 0;
-    let mut k = 0;
-    while k < ends.len() {
-        let end = ends[k];
-        if !is_end(before, end, most) {
+    for end in ends {
+        if !is_end(before, *end, most) {
             return false;
         }
-        before = end;
-        k += 1;
+        before = *end;
     }
     true
 }
@@ -35,7 +32,7 @@ fn are_rising(ends: &[usize], most: usize) -> bool
 fn is_count(count: usize) -> bool
     ensures { result ≡ within 1 64 count }
 {
-    1 <= count && count <= 64
+    (1..=64).contains(&count)
 }
 
 // How many step places, words and answers are lent; and whether there are bytes enough for a sheet, if one is asked for.
@@ -52,32 +49,23 @@ fn has_room(count: usize, room: Room) -> bool
     requires { count ≤ 64 }
     ensures { result ≡ leb (32 * count) room.steps && leb (256 * count) room.words && leb (9 * count) room.answers }
 {
-    if room.steps < 32 * count {
-        return false;
-    }
-    if room.words < 256 * count {
-        return false;
-    }
-    9 * count <= room.answers
+    32 * count <= room.steps && 256 * count <= room.words && 9 * count <= room.answers
 }
 
 // 26 of ends that mark a list of `most` words, then 12, then 7 of a sheet.
-fn ask(ends: &[usize], most: usize, room: Room) -> Checked
+fn ask(ends: &[usize], most: usize, room: Room) -> Result<(), Refusal>
     ensures { CheckedBy (behind_book most ends.now room) result }
 {
-    if !is_count(ends.len()) {
-        return Checked::Refused(Refusal::RoundEnds);
-    }
-    if !are_rising(ends, most) {
-        return Checked::Refused(Refusal::RoundEnds);
+    if !is_count(ends.len()) || !are_rising(ends, most) {
+        return Err(Refusal::RoundEnds);
     }
     if !has_room(ends.len(), room) {
-        return Checked::Refused(Refusal::StepsOrWordsTooShort);
+        return Err(Refusal::StepsOrWordsTooShort);
     }
     if !room.enough {
-        return Checked::Refused(Refusal::ListTooShort);
+        return Err(Refusal::ListTooShort);
     }
-    Checked::Passed
+    Ok(())
 }
 
 // All questions of a round: the book's, 26, 12 and 7. Where they pass, the book is open.
@@ -87,15 +75,11 @@ pub fn open_round(
     ends: &[usize],
     most: usize,
     room: Room,
-) -> Opened
+) -> Result<Counts, Refusal>
     requires { index_size ≤ length index.old }
     ensures { OpenedFor book.now ends.now most room index.new result }
 {
-    match opening::open_book(book, index) {
-        Opened::Refused(refusal) => Opened::Refused(refusal),
-        Opened::Book(counts) => match ask(ends, most, room) {
-            Checked::Passed => Opened::Book(counts),
-            Checked::Refused(refusal) => Opened::Refused(refusal),
-        },
-    }
+    let counts = opening::open_book(book, index)?;
+    ask(ends, most, room)?;
+    Ok(counts)
 }

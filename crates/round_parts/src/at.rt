@@ -1,6 +1,6 @@
 // Direction k of a round, counted from 0, on its own places of the caller's lists.
 ghost use Rattle.std.specs.Prelude.{◌≡◌, ◌||◌, ◌+◌, ◌*◌, ◌≤◌, length};
-ghost use Rattle.meaning.specs.Reply.{decoded_reply, written_over};
+ghost use Rattle.meaning.specs.Reply.{reply_of, written_over};
 ghost use Rattle.meaning.specs.Round.{answer_numbers};
 ghost use Rattle.options.specs.Options.{options_size};
 ghost use Rattle.clearing.specs.Swept.{Swept};
@@ -53,8 +53,8 @@ pub fn put_at(
     requires count_bound { told.plain.count ≤ 32 }
     requires all_countable { AllCountable told.reply }
     ensures steps_after { steps.new ≡ put_at 96 k steps.old (written_over (numbers_of (steps_of told.plain)) (places_at 96 k steps.old)) }
-    ensures answers_after { answers.new ≡ put_at 9 k answers.old (answer_numbers (decoded_reply told.reply)) }
-    ensures value { result ≡ swept || is_searched (decoded_reply told.reply) }
+    ensures answers_after { answers.new ≡ put_at 9 k answers.old (answer_numbers (reply_of told.reply)) }
+    ensures value { result ≡ swept || is_searched (reply_of told.reply) }
 {
     crate::tell::put_told(
         &mut steps[96 * k..96 * k + 96],

@@ -11,7 +11,7 @@ ghost use Rattle.meaning.specs.Sheet.{direction_texts, texts_refusal, sheet_refu
 ghost use Rattle.decimals.specs.Put.{Put};
 ghost use Rattle.round_program.specs.Parts.{program_lent, printed_sheet};
 
-use meaning::{Read, Refusal};
+use meaning::Refusal;
 
 // Whether neither input has more bytes than the program takes.
 fn are_short(book: &[u8], text: &[u8]) -> bool
@@ -24,7 +24,7 @@ fn are_short(book: &[u8], text: &[u8]) -> bool
 fn is_round(n: usize) -> bool
     ensures { result ≡ within 1 64 n }
 {
-    1 <= n && n <= 64
+    (1..=64).contains(&n)
 }
 
 // Decodes the round with pruning off and a store of 512 states, and puts its sheet or its refusal.
@@ -48,8 +48,8 @@ fn put_round(out: &mut [u8], book: &[i32], directions: &[u16], ends: &[usize]) -
         out,
     );
     match told {
-        Read::Numbers(n) => n,
-        Read::Refused(refusal) => printing::put_refusal(out, 0, refusal),
+        Ok(n) => n,
+        Err(refusal) => printing::put_refusal(out, 0, refusal),
     }
 }
 
@@ -63,8 +63,8 @@ fn put_directions(out: &mut [u8], book: &[i32], text: &[u8]) -> usize
     let mut directions = [0u16; 2048];
     let mut ends = [0usize; 64];
     match round_lines::read_lines(text, &mut directions, &mut ends) {
-        Read::Numbers(n) => put_round(out, book, &directions, &ends[..n]),
-        Read::Refused(refusal) => printing::put_refusal(out, 0, refusal),
+        Ok(n) => put_round(out, book, &directions, &ends[..n]),
+        Err(refusal) => printing::put_refusal(out, 0, refusal),
     }
 }
 
@@ -92,7 +92,7 @@ pub fn print_round(book: &[u8], text: &[u8], out: &mut [u8; 2048]) -> usize
     }
     let mut loaded = [0i32; 8192];
     match reading::read_book(book, &mut loaded) {
-        Read::Numbers(n) => put_text(out, &loaded[..n], text),
-        Read::Refused(refusal) => printing::put_refusal(out, 0, refusal),
+        Ok(n) => put_text(out, &loaded[..n], text),
+        Err(refusal) => printing::put_refusal(out, 0, refusal),
     }
 }

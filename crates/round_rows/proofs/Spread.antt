@@ -1,4 +1,6 @@
 -- A round on zeros: its reply is that of the caller's own places, and its steps, put over any list of records, are those of the round on that list.
+use Rattle.std.specs.declared.result.Result.{Result}
+use Rattle.meaning.specs.declared.Refusal.{Refusal}
 use Prim.Native.Nat.{ℕ, ◌*◌, ◌≤◌}
 use native.Mathlib.Omega.{arith}
 use mathlib.Core.Path.{◌≡◌, sym, ap, subst, ◌∙◌}
@@ -8,11 +10,9 @@ use lib.IntN.{ℤ}
 use lib.ListN.{length, take, drop, replicate, length-append, length-replicate}
 use lib.Seq.{take_at}
 use Rattle.meaning.specs.Questions.{◌unless◌, ◌orelse◌}
-use Rattle.meaning.specs.Reply.{reply, checked_reply, read_reply, written_if}
+use Rattle.meaning.specs.Reply.{reply, reply_of, written_if}
 use Rattle.meaning.specs.Round.{as_records, by_parts, alone, kept_if_refused, decode_round, round_refusal, directions_of, RoundLists}
 use Rattle.meaning.specs.Sheet.{sheet_refusal, round_sheet, sheet_reply}
-use Rattle.meaning.specs.declared.Checked.{Checked}
-use Rattle.meaning.specs.declared.Read.{Read}
 use Rattle.meaning.specs.declared.Step.{Step}
 use Rattle.meaning.proofs.Chains.{first_passes}
 use Rattle.meaning.proofs.Parts.{directions_count}
@@ -76,7 +76,7 @@ module _ (loaded : List ℤ) (directions ends : List ℕ) (width : ℤ) (room co
 
     -- ════ the round
 
-    pub decodes_rows : (replied : Checked) → checked_reply replied ≡ decode_round loaded directions ends (lent_numbers lent words₀ store₀) (length answers₀) → OnNumbers (refusal_on (length (records_in lent)))
+    pub decodes_rows : (replied : Result Unit Refusal) → reply_of replied ≡ decode_round loaded directions ends (lent_numbers lent words₀ store₀) (length answers₀) → OnNumbers (refusal_on (length (records_in lent)))
         → DecodesRows loaded directions ends width room words₀ words₁ store₀ store₁ answers₀ answers₁ (record { rows = record { count = count; numbers = numbers }; reply = replied })
     unfolding decode_round
     decodes_rows replied told lists = record {
@@ -103,7 +103,7 @@ module _ (loaded : List ℤ) (directions ends : List ℕ) (width : ℤ) (room co
       abbrev bytes : List ℕ
       bytes = round_sheet loaded directions ends width (length store₀)
 
-      pub sheets_rows : (replied : Read) → read_reply replied ≡ sheet_reply loaded directions ends width (lent_numbers lent words₀ store₀) (length answers₀) (length sheet₀) → OnNumbers (sheet_on (length (records_in lent)))
+      pub sheets_rows : (replied : Result ℕ Refusal) → reply_of replied ≡ sheet_reply loaded directions ends width (lent_numbers lent words₀ store₀) (length answers₀) (length sheet₀) → OnNumbers (sheet_on (length (records_in lent)))
           → sheet₁ ≡ written_if (sheet_on (length (records_in lent))) bytes sheet₀
           → SheetsRows loaded directions ends width room words₀ words₁ store₀ store₁ answers₀ answers₁ sheet₀ sheet₁ (record { rows = record { count = count; numbers = numbers }; reply = replied })
       unfolding sheet_reply

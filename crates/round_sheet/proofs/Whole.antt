@@ -1,4 +1,7 @@
 -- A round's sheet from the questions to its bytes, whatever form the steps have.
+use Rattle.std.specs.declared.result.Result.TheVariants.{Ok, Err}
+use Rattle.std.specs.declared.result.Result.{Result}
+use Rattle.meaning.specs.declared.Refusal.{Refusal}
 use Prim.Native.Nat.{ℕ, ◌*◌, ◌≤◌}
 use native.Mathlib.Omega.{arith}
 use mathlib.Core.Path.{◌≡◌, sym, ap, ◌∙◌}
@@ -11,12 +14,9 @@ use lib.ListN.{length}
 use Rattle.laws.proofs.Tests.{both, between}
 use Rattle.meaning.specs.Questions.{◌unless◌, within, number}
 use Rattle.meaning.specs.Book.{book_refusal}
-use Rattle.meaning.specs.Reply.{reply, done, Lent, checked_reply, read_reply, written_over, written_if, decode}
+use Rattle.meaning.specs.Reply.{reply, done, Lent, reply_of, written_over, written_if, decode}
 use Rattle.meaning.specs.Round.{are_rising, are_ends, directions_of, round_refusal, Form, alone, answer_numbers, by_parts, kept_if_refused, RoundLists}
 use Rattle.meaning.specs.Sheet.{sheet_of, sheet_refusal, round_sheet, sheet_reply}
-use Rattle.meaning.specs.declared.Checked.{Checked}
-use Rattle.meaning.specs.declared.Checked.TheVariants.{Passed, Refused}
-use Rattle.meaning.specs.declared.Read.{Read}
 use Rattle.meaning.proofs.Chains.{first_passes, rest_passes, test_passes, done_passes, refused_is, reply_done, written_done, written_refused}
 use Rattle.meaning.proofs.Numbered.{number_from, refused_reply}
 use Rattle.meaning.proofs.Parts.{directions_count}
@@ -35,9 +35,9 @@ module _ {A : Type 0} (form : Form A) (loaded : List ℤ) (directions ends : Lis
   refusal = sheet_refusal loaded directions ends lent (length answers₀) (length sheet₀)
 
   -- what the call ensures
-  abbrev pub Sheeted : List A → List ℕ → List ℤ → List ℤ → List ℕ → Read → Type 0
+  abbrev pub Sheeted : List A → List ℕ → List ℤ → List ℤ → List ℕ → Result ℕ Refusal → Type 0
   Sheeted steps₁ words₁ store₁ answers₁ sheet₁ r =
-      (read_reply r ≡ sheet_reply loaded directions ends width lent (length answers₀) (length sheet₀))
+      (reply_of r ≡ sheet_reply loaded directions ends width lent (length answers₀) (length sheet₀))
       × (RoundLists form refusal loaded (directions_of directions ends) width steps₀ steps₁ words₀ words₁ store₀ store₁ answers₀ answers₁
       × (sheet₁ ≡ written_if refusal (round_sheet loaded directions ends width (length store₀)) sheet₀))
 
@@ -86,19 +86,19 @@ module _ {A : Type 0} (form : Form A) (loaded : List ℤ) (directions ends : Lis
       unfolding round_sheet
       rows = ap sheet_of (rw (after, ← many) (round_rows_lem loaded width store₀ ds answers₀ few room))
 
-    passed : checked_reply Passed ≡ reply refusal tt → refusal ≡ 0
+    passed : reply_of {A = Unit {0}} (Ok tt) ≡ reply refusal tt → refusal ≡ 0
     passed e = done_passes refusal _ _ (sym e)
 
-    pub sheet_tellable : (r : Checked) → checked_reply r ≡ reply refusal tt → Tellable r answers₁ (length ends) sheet₀
-    sheet_tellable Passed e = (fits (passed e), enough (passed e))
-    sheet_tellable (Refused why) e = tt
+    pub sheet_tellable : (r : Result Unit Refusal) → reply_of r ≡ reply refusal tt → Tellable r answers₁ (length ends) sheet₀
+    sheet_tellable (Ok tt) e = (fits (passed e), enough (passed e))
+    sheet_tellable (Err why) e = tt
 
-    pub sheet_told : (r : Checked) (sheet₁ : List ℕ) (told : Read) → checked_reply r ≡ reply refusal tt → Told r answers₁ (length ends) sheet₀ sheet₁ told
+    pub sheet_told : (r : Result Unit Refusal) (sheet₁ : List ℕ) (told : Result ℕ Refusal) → reply_of r ≡ reply refusal tt → Told r answers₁ (length ends) sheet₀ sheet₁ told
         → Sheeted steps₁ words₁ store₁ answers₁ sheet₁ told
     unfolding sheet_reply
-    sheet_told Passed sheet₁ told e t =
+    sheet_told (Ok tt) sheet₁ told e t =
         let b = rows (passed e) in
         (t.0 ∙ ap (λ (bs : List ℕ). done (length bs)) b ∙ sym (reply_done refusal _ (passed e)), (lists, t.1 ∙ ap (λ (bs : List ℕ). written_over bs sheet₀) b ∙ sym (written_done refusal _ sheet₀ (passed e))))
-    sheet_told (Refused why) sheet₁ told e t =
+    sheet_told (Err why) sheet₁ told e t =
         let k : refusal ≡ number why = refused_is refusal (number why) _ (sym e) in
         (t.0 ∙ refused_reply why _ _ k, (lists, t.1 ∙ sym (written_refused refusal _ sheet₀ (omega (arith, k, number_from why)))))

@@ -8,7 +8,7 @@ use lib.IntN.{ℤ, pos}
 use lib.ListN.{length, get_or, take, drop, replicate, length-replicate}
 use Rattle.meaning.specs.Book.{book_of}
 use Rattle.meaning.specs.Search.{answer}
-use Rattle.meaning.specs.Reply.{Reply, refused, done, written_over, written_if, Lent, decoded_reply, before_search, decode_refusal, answer_steps, decode, cleared_if, decoded_words, decoded_store}
+use Rattle.meaning.specs.Reply.{Reply, refused, done, written_over, written_if, Lent, reply_of, before_search, decode_refusal, answer_steps, decode, cleared_if, decoded_words, decoded_store}
 use Rattle.meaning.specs.Round.{directions_of, alone, answer_numbers, by_parts, store_after}
 use Rattle.meaning.specs.declared.Answer.{Answer}
 use Rattle.meaning.specs.declared.Step.{Step}
@@ -145,7 +145,7 @@ module _ (loaded : List ℤ) (directions ends : List ℕ) (width : ℤ) (steps�
           ∙ numbers_written (decode_refusal loaded direction width lent) found (part_of 96 k steps)
           ∙ ap (λ (l : Lent). written_if (decode_refusal loaded direction width l) (numbers_of found) (part_of 96 k steps)) lent_is ∙ ap (each_steps direction) steps_part
 
-      its_answer : (answers' : List ℤ) → answers' ≡ answer_numbers (decoded_reply told.reply) → answers' ≡ each_answer direction (part_of 9 k answers₀)
+      its_answer : (answers' : List ℤ) → answers' ≡ answer_numbers (reply_of told.reply) → answers' ≡ each_answer direction (part_of 9 k answers₀)
       its_answer answers' e = e ∙ ap answer_numbers D.reply_is ∙ ap (λ (l : Lent). answer_numbers (decode loaded direction width l)) lent_is
 
       its_store : store' ≡ store_after loaded width (take (k + 1) ds) store₀
@@ -154,8 +154,8 @@ module _ (loaded : List ℤ) (directions ends : List ℕ) (width : ℤ) (steps�
           ∙ sym (store_more loaded width ds store₀ k inside) ∙ ap (λ (j : ℕ). store_after loaded width (take j ds) store₀) one_more
 
       pub going_on : (end : ℕ) (swept' : Bool) (steps' : List ℕ) (answers' : List ℤ) → end ≡ get_or ends k 0
-          → steps' ≡ written_over (numbers_of (steps_of told.plain)) (part_of 96 k steps) → answers' ≡ answer_numbers (decoded_reply told.reply)
-          → swept' ≡ swept || is_searched (decoded_reply told.reply)
+          → steps' ≡ written_over (numbers_of (steps_of told.plain)) (part_of 96 k steps) → answers' ≡ answer_numbers (reply_of told.reply)
+          → swept' ≡ swept || is_searched (reply_of told.reply)
           → Going (k + 1) end swept' (take (96 * k) steps ++ (steps' ++ drop 96 (drop (96 * k) steps))) (take (256 * k) words ++ (words' ++ drop 256 (drop (256 * k) words))) store'
           (take (9 * k) answers ++ (answers' ++ drop 9 (drop (9 * k) answers)))
       going_on end swept' steps' answers' e s a w =

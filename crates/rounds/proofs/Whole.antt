@@ -1,4 +1,6 @@
 -- A round from its questions to its end.
+use Rattle.std.specs.declared.result.Result.TheVariants.{Ok, Err}
+use Rattle.std.specs.declared.result.Result.{Result}
 use Prim.Native.Nat.{ℕ, zero, suc, ◌+◌, ◌-◌, ◌*◌, ◌/◌, ◌≤◌, ◌<◌}
 use native.Mathlib.Omega.{arith}
 use mathlib.Core.Path.{◌≡◌, refl, ap, ◌∙◌, subst}
@@ -13,10 +15,8 @@ use Rattle.laws.proofs.Lists.{all_at}
 use Rattle.laws.proofs.Tests.{both, between}
 use Rattle.meaning.specs.Questions.{◌unless◌, ◌orelse◌, within, number}
 use Rattle.meaning.specs.Book.{book_refusal}
-use Rattle.meaning.specs.Reply.{reply, checked_reply, decoded_reply, decode, written_over}
+use Rattle.meaning.specs.Reply.{reply, reply_of, decode, written_over}
 use Rattle.meaning.specs.Round.{are_rising, directions_of, round_refusal, decode_round, RoundLists, kept_if_refused, alone, answer_numbers}
-use Rattle.meaning.specs.declared.Checked.{Checked}
-use Rattle.meaning.specs.declared.Checked.TheVariants.{Passed, Refused}
 use Rattle.meaning.specs.declared.Refusal.{Refusal}
 use Rattle.meaning.proofs.Chains.{first_passes, rest_passes, test_passes}
 use Rattle.meaning.proofs.Lengths.{words_keep, answer_nine}
@@ -128,7 +128,7 @@ module _ (loaded : List ℤ) (directions ends : List ℕ) (steps₀ words₀ : L
 
         pub going_next : (told : PlainReply) (words₁ : List ℕ) (store₁ : List ℤ) → DecodesAt k loaded (take (get_or ends k 0 - from) (drop from directions)) width words words₁ store store₁ told
             → (swept₁ : Bool) (steps₁ : List ℕ) (answers₁ : List ℤ) → steps₁ ≡ put_at 96 k steps (written_over (numbers_of (steps_of told.plain)) (places_at 96 k steps))
-            → answers₁ ≡ put_at 9 k answers (answer_numbers (decoded_reply told.reply)) → swept₁ ≡ swept || is_searched (decoded_reply told.reply)
+            → answers₁ ≡ put_at 9 k answers (answer_numbers (reply_of told.reply)) → swept₁ ≡ swept || is_searched (reply_of told.reply)
             → Going loaded directions ends width steps₀ words₀ store₀ answers₀ (k + 1) (get_or ends k 0) swept₁ steps₁ words₁ store₁ answers₁
         going_next told words₁ store₁ D swept₁ steps₁ answers₁ s a w =
             let d : take (get_or ends k 0 - from) (drop from directions) ≡ get_or (directions_of directions ends) k [] = direction_is loaded directions ends width steps₀ words₀ store₀ answers₀ (roomy R) G h (get_or ends k 0) refl in
@@ -154,7 +154,7 @@ module _ (loaded : List ℤ) (directions ends : List ℕ) (steps₀ words₀ : L
         })
 
     pub round_passed : {index : List ℕ} {counts : Counts} → Ready index counts
-        → checked_reply Passed ≡ reply refusal_in tt
+        → reply_of {A = Unit {0}} (Ok tt) ≡ reply refusal_in tt
     round_passed R = rw R.passes refl
 
     -- ════ one refuses
@@ -164,7 +164,7 @@ module _ (loaded : List ℤ) (directions ends : List ℕ) (steps₀ words₀ : L
     kept (suc k) old new h = refl
 
     pub round_refused : (refusal : Refusal) → (book_refusal loaded orelse behind_book (length directions) ends room_in) ≡ number refusal
-        → (checked_reply (Refused refusal) ≡ reply refusal_in tt) × Done steps₀ words₀ store₀ answers₀
+        → (reply_of {A = Unit {0}} (Err refusal) ≡ reply refusal_in tt) × Done steps₀ words₀ store₀ answers₀
     round_refused refusal e =
         let r : refusal_in ≡ number refusal = refusal_is ∙ e in
         let one : 1 ≤ refusal_in = omega (arith, r, number_from refusal) in
@@ -176,12 +176,12 @@ behind_none : (k : ℕ) → k orelse 0 ≡ k
 behind_none zero = refl
 behind_none (suc k) = refl
 
-pub without_sheet : (loaded : List ℤ) (directions ends : List ℕ) (width : ℤ) (steps₀ steps₁ words₀ words₁ : List ℕ) (store₀ store₁ answers₀ answers₁ : List ℤ) (r : Checked)
-    → (checked_reply r ≡ reply (refusal_in loaded directions ends steps₀ words₀ store₀ answers₀ true) tt)
+pub without_sheet : (loaded : List ℤ) (directions ends : List ℕ) (width : ℤ) (steps₀ steps₁ words₀ words₁ : List ℕ) (store₀ store₁ answers₀ answers₁ : List ℤ) (r : Result Unit Refusal)
+    → (reply_of r ≡ reply (refusal_in loaded directions ends steps₀ words₀ store₀ answers₀ true) tt)
     × RoundLists as_numbers (refusal_in loaded directions ends steps₀ words₀ store₀ answers₀ true) loaded (directions_of directions ends) width steps₀ steps₁ words₀ words₁ store₀ store₁ answers₀ answers₁
-    → (checked_reply r ≡ decode_round loaded directions ends (lent_numbers steps₀ words₀ store₀) (length answers₀))
+    → (reply_of r ≡ decode_round loaded directions ends (lent_numbers steps₀ words₀ store₀) (length answers₀))
     × RoundLists as_numbers (round_refusal loaded directions ends (lent_numbers steps₀ words₀ store₀) (length answers₀)) loaded (directions_of directions ends) width steps₀ steps₁ words₀ words₁ store₀ store₁ answers₀ answers₁
 unfolding decode_round
 without_sheet loaded directions ends width steps₀ steps₁ words₀ words₁ store₀ store₁ answers₀ answers₁ r e =
-    subst (λ (k : ℕ). (checked_reply r ≡ reply k tt) × RoundLists as_numbers k loaded (directions_of directions ends) width steps₀ steps₁ words₀ words₁ store₀ store₁ answers₀ answers₁)
+    subst (λ (k : ℕ). (reply_of r ≡ reply k tt) × RoundLists as_numbers k loaded (directions_of directions ends) width steps₀ steps₁ words₀ words₁ store₀ store₁ answers₀ answers₁)
     (behind_none (round_refusal loaded directions ends (lent_numbers steps₀ words₀ store₀) (length answers₀))) e

@@ -3,13 +3,12 @@
 
 ghost use Rattle.std.specs.Prelude.{◌≡◌, length};
 ghost use Rattle.meaning.specs.Questions.{◌unless◌, ◌orelse◌};
-ghost use Rattle.meaning.specs.Reply.{reply, checked_reply};
+ghost use Rattle.meaning.specs.Reply.{reply, reply_of};
 ghost use Rattle.meaning.specs.Round.{decode_round, round_refusal, directions_of, RoundLists};
 ghost use Rattle.lists.specs.Steps.{as_numbers, lent_numbers};
 
 use book::entries::INDEX_SIZE;
-use meaning::Checked;
-use opening::Opened;
+use meaning::Refusal;
 use plain::Turn;
 use round_parts::ask::Room;
 use round_parts::{ask, at};
@@ -27,8 +26,8 @@ pub fn decode_if(
     store: &mut [i64],
     answers: &mut [i64],
     enough: bool,
-) -> Checked
-    ensures result_value { checked_reply result ≡ reply (round_refusal book.now directions.now ends.now (lent_numbers steps.old words.old store.old) (length answers.old) orelse 7 unless enough) tt }
+) -> Result<(), Refusal>
+    ensures result_value { reply_of result ≡ reply (round_refusal book.now directions.now ends.now (lent_numbers steps.old words.old store.old) (length answers.old) orelse 7 unless enough) tt }
     ensures round_lists { RoundLists as_numbers (round_refusal book.now directions.now ends.now (lent_numbers steps.old words.old store.old) (length answers.old) orelse 7 unless enough) book.now (directions_of directions.now ends.now) width steps.old steps.new words.old words.new store.old store.new answers.old answers.new }
 {
     let mut index = [0u16; INDEX_SIZE];
@@ -39,15 +38,10 @@ pub fn decode_if(
         answers: answers.len(),
         enough,
     };
-    let counts = match ask::open_round(book, &mut index, ends, directions.len(), room) {
-        Opened::Book(counts) => counts,
-        Opened::Refused(refusal) => return Checked::Refused(refusal),
-    };
+    let counts = ask::open_round(book, &mut index, ends, directions.len(), room)?;
     let mut from = 0;
     let mut swept = false;
-    let mut k = 0;
-    while k < ends.len() {
-        let end = ends[k];
+    for (k, end) in ends.iter().enumerate() {
         let turn = Turn {
             counts,
             width,
@@ -56,7 +50,7 @@ pub fn decode_if(
         };
         let told = at::decode_at(
             book,
-            &directions[from..end],
+            &directions[from..*end],
             &index,
             &mut options,
             turn,
@@ -65,10 +59,9 @@ pub fn decode_if(
             k,
         );
         swept = at::put_at(steps, answers, told, swept, k);
-        from = end;
-        k += 1;
+        from = *end;
     }
-    Checked::Passed
+    Ok(())
 }
 
 // The round, where no sheet is asked for.
@@ -81,8 +74,8 @@ pub fn decode_round(
     words: &mut [u16],
     store: &mut [i64],
     answers: &mut [i64],
-) -> Checked
-    ensures result_value { checked_reply result ≡ decode_round book.now directions.now ends.now (lent_numbers steps.old words.old store.old) (length answers.old) }
+) -> Result<(), Refusal>
+    ensures result_value { reply_of result ≡ decode_round book.now directions.now ends.now (lent_numbers steps.old words.old store.old) (length answers.old) }
     ensures round_lists { RoundLists as_numbers (round_refusal book.now directions.now ends.now (lent_numbers steps.old words.old store.old) (length answers.old)) book.now (directions_of directions.now ends.now) width steps.old steps.new words.old words.new store.old store.new answers.old answers.new }
 {
     decode_if(

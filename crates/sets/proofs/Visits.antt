@@ -1,6 +1,5 @@
 -- The sets: the start state, the state that is to be extended, and the last set.
 use Prim.Native.Nat.{ℕ, ◌≤◌, ◌<◌}
-use native.Mathlib.Omega.{arith}
 use mathlib.Core.Path.{◌≡◌, sym, subst}
 use mathlib.Core.Bool.{true}
 use mathlib.Core.List.{List}
@@ -31,10 +30,3 @@ pub start_put : (book : Book) (direction : List ℕ) (width : ℤ) → word_coun
     → Put old st 0 x → Indexed st 1 → Starting book direction width 0 st 1
 start_put book direction width few b z u J =
     search_starts book direction width J (subst (λ (y : Place). Shows (word_count direction) y (first (search book direction width))) (sym u.at) (first_shown book direction width b z few))
-
--- as many sets as there are words
-pub all_sets : (book : Book) (direction : List ℕ) (width : ℤ) {i n : ℕ} {st : List ℤ} {count : ℕ} → n ≡ word_count direction → i ≤ n → n ≤ i
-    → Starting book direction width i st count → Starting book direction width (word_count direction) st count
-all_sets book direction width {i} {st} {count} e a b B =
-    let z : i ≡ word_count direction = omega arith in
-    subst (λ (m : ℕ). Starting book direction width m st count) z B

@@ -7,11 +7,11 @@ ghost use Rattle.meaning.specs.Book.{book_of};
 ghost use Rattle.meaning.specs.Direction.{word_count};
 ghost use Rattle.meaning.specs.Search.{search};
 ghost use Rattle.states.specs.Ghost.{Levelling, Levelled, Starting, Reached, top_of};
-ghost use Rattle.extending.specs.Extend.{Searchable};
 
-use extending::{Beam, Source};
+use extending::Source;
+use extending::task::Task;
 use meaning::State;
-use states::Grown;
+use states::Full;
 use store::Place;
 
 // A place whose state may be extended: its number, the set that is extended, and the best score of that set.
@@ -26,79 +26,50 @@ pub struct Candidate {
 fn visit(
     store: &mut [i64],
     count: usize,
-    book: &[i32],
-    direction: &[u16],
-    index: &[u16],
-    options: &[u16],
-    beam: Beam,
+    task: &Task<'_>,
     candidate: Candidate,
-) -> Grown
-    requires searchable { Searchable book.now direction.now index.now options.now beam.setup }
-    requires set_lt_n { (candidate.set < beam.setup.n) × (candidate.at < length (upto (search (book_of book.now) direction.now beam.width) candidate.set)) }
-    requires top_value { candidate.top ≡ top_of (book_of book.now) direction.now beam.width candidate.set }
-    requires levelling { Levelling (book_of book.now) direction.now beam.width candidate.set candidate.at store.old count }
-    ensures { Levelled (book_of book.now) direction.now beam.width candidate.set (candidate.at + 1) store.new result }
+) -> Result<usize, Full>
+    requires set_lt_n { (candidate.set < task.now.beam.setup.n) × (candidate.at < length (upto (search (book_of task.now.book.now) task.now.direction.now task.now.beam.width) candidate.set)) }
+    requires top_value { candidate.top ≡ top_of (book_of task.now.book.now) task.now.direction.now task.now.beam.width candidate.set }
+    requires levelling { Levelling (book_of task.now.book.now) task.now.direction.now task.now.beam.width candidate.set candidate.at store.old count }
+    ensures { Levelled (book_of task.now.book.now) task.now.direction.now task.now.beam.width candidate.set (candidate.at + 1) store.new result }
 {
     let x = store::places::place_at(store, candidate.at);
     if x.size != candidate.set {
-        return Grown::On(count);
+        return Ok(count);
     }
-    if !states::best::is_within(candidate.top, x.state, beam.width) {
-        return Grown::On(count);
+    if !states::best::is_within(candidate.top, x.state, task.beam.width) {
+        return Ok(count);
     }
     let source = Source {
         place: x,
         at: candidate.at,
     };
-    extending::extend_all(store, count, book, direction, index, options, beam, source)
+    extending::extend_all(store, count, task, source)
 }
 
 // The set i is extended: the states that cover i words, in the order in which they were entered.
-fn level(
-    store: &mut [i64],
-    count: usize,
-    book: &[i32],
-    direction: &[u16],
-    index: &[u16],
-    options: &[u16],
-    beam: Beam,
-    i: usize,
-) -> Grown
-    requires searchable { Searchable book.now direction.now index.now options.now beam.setup }
-    requires i_lt_n { i < beam.setup.n }
-    requires starting { Starting (book_of book.now) direction.now beam.width i store.old count }
-    ensures { Reached (book_of book.now) direction.now beam.width (i + 1) store.new result }
+fn level(store: &mut [i64], count: usize, task: &Task<'_>, i: usize) -> Result<usize, Full>
+    requires i_lt_n { i < task.now.beam.setup.n }
+    requires starting { Starting (book_of task.now.book.now) task.now.direction.now task.now.beam.width i store.old count }
+    ensures { Reached (book_of task.now.book.now) task.now.direction.now task.now.beam.width (i + 1) store.new result }
 {
     let top = states::best::top_score(store, count, i);
     let mut c = count;
-    let mut j = 0;
-    while j < count {
+    for j in 0..count {
         let candidate = Candidate { at: j, set: i, top };
-        let Grown::On(more) = visit(store, c, book, direction, index, options, beam, candidate)
-        else {
-            return Grown::Overflow;
-        };
-        c = more;
-        j += 1;
+        c = visit(store, c, task, candidate)?;
     }
-    Grown::On(c)
+    Ok(c)
 }
 
 // All sets but the last are extended, from the start state on. The store holds zeros only at first.
-pub fn search(
-    store: &mut [i64],
-    book: &[i32],
-    direction: &[u16],
-    index: &[u16],
-    options: &[u16],
-    beam: Beam,
-) -> Grown
-    requires searchable { Searchable book.now direction.now index.now options.now beam.setup }
+pub fn search(store: &mut [i64], task: &Task<'_>) -> Result<usize, Full>
     requires store_value { store.old ≡ replicate (length store.old) (pos 0) }
-    ensures { Reached (book_of book.now) direction.now beam.width (word_count direction.now) store.new result }
+    ensures { Reached (book_of task.now.book.now) task.now.direction.now task.now.beam.width (word_count task.now.direction.now) store.new result }
 {
     if store.len() < 8 {
-        return Grown::Overflow;
+        return Err(Full);
     }
     store::index::append_place(
         store,
@@ -111,13 +82,8 @@ pub fn search(
         },
     );
     let mut c = 1;
-    let mut i = 0;
-    while i < beam.setup.n {
-        let Grown::On(more) = level(store, c, book, direction, index, options, beam, i) else {
-            return Grown::Overflow;
-        };
-        c = more;
-        i += 1;
+    for i in 0..task.beam.setup.n {
+        c = level(store, c, task, i)?;
     }
-    Grown::On(c)
+    Ok(c)
 }

@@ -1,4 +1,4 @@
--- The numbers of a sheet's lines as code holds them are those of the lines, and each can be put.
+-- The numbers of a sheet's lines as code holds them are those of the lines.
 use Prim.Native.Nat.{ℕ, ◌+◌, ◌*◌, ◌≤◌, ◌<◌}
 use native.Mathlib.Omega.{arith}
 use mathlib.Core.Path.{◌≡◌, refl, ap, ◌∙◌}
@@ -8,11 +8,9 @@ use lib.ListN.{get_or}
 use mir.Syntax.{w64}
 use mir.Val.{to_z}
 use Rattle.laws.specs.Integers.{Within}
-use Rattle.laws.proofs.Bounds.{within_mono}
 use Rattle.laws.proofs.Got.{i64, held, kept}
 use Rattle.meaning.specs.Sheet.{direction_line}
-use Rattle.printing.specs.Lines.{Printable}
-use Rattle.printing.proofs.Numbers.{none_put, and_put, nat_put, cast_is}
+use Rattle.printing.proofs.Numbers.{cast_is}
 use Rattle.sheet.specs.Rows.{number_at, row_at, Fits}
 
 module _ {answers : List ℤ} {n : ℕ} (f : Fits answers n) (k : ℕ) (h : k < n) where
@@ -41,14 +39,6 @@ module _ {answers : List ℤ} {n : ℕ} (f : Fits answers n) (k : ℕ) (h : k < 
       let a = cast_is (k + 1) (omega (arith, f.few)) in
       λ j. a j ∷ answer_held j ∷ score_held j ∷ words_held j ∷ []
 
-  pub direction_put : Printable (direction_line (k + 1) (row_at answers k)).numbers
-  direction_put =
-      let r = f.rows k h in
-      and_put (nat_put _ (omega (arith, f.few))) (and_put (nat_put _ (omega (arith, r.answer))) (and_put (within_mono (omega arith) r.score) (and_put (nat_put _ (omega (arith, r.words))) none_put)))
-
 -- two counts
 pub two_held : (a b : ℕ) → a ≤ 64 → b ≤ 64 → to_z w64 a ∷ to_z w64 b ∷ [] ≡ pos a ∷ pos b ∷ []
 two_held a b l m = let p = cast_is a (omega arith) in let q = cast_is b (omega arith) in λ j. p j ∷ q j ∷ []
-
-pub two_put : (a b : ℕ) → a ≤ 64 → b ≤ 64 → Printable (pos a ∷ pos b ∷ [])
-two_put a b l m = and_put (nat_put a (omega arith)) (and_put (nat_put b (omega arith)) none_put)

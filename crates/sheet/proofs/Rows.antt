@@ -2,13 +2,15 @@
 use Prim.Native.Nat.{ℕ, zero, suc, ◌+◌, ◌≤◌, max}
 use native.Mathlib.Omega.{arith}
 use mathlib.Core.Path.{◌≡◌, refl, ap, ◌∙◌}
-use mathlib.Core.Bool.{cond}
 use mathlib.Core.List.{List, [], ◌∷◌, ◌++◌, map, map-append}
 use lib.Dec.{eqb}
 use lib.IntN.{ℤ}
 use lib.ListN.{length, length-map}
-use Rattle.laws.specs.Lists.{numbers_from}
-use Rattle.laws.proofs.Lists.{count_++, count_le, numbers_length, numbers_next}
+use Rattle.std.specs.List.{range_with_len, filter, fold, reduce}
+use Rattle.std.specs.Option.{unwrap_or}
+use Rattle.laws.specs.Lists.{numbers_from, count}
+use Rattle.laws.proofs.Tests.{by_test}
+use Rattle.laws.proofs.Lists.{count_le, numbers_length, numbers_next}
 use Rattle.meaning.specs.Sheet.{Row, Line, direction_line, direction_lines, count_of, largest}
 use Rattle.sheet.specs.Rows.{row_at, rows_in, Fits}
 
@@ -39,14 +41,6 @@ lines_next answers k =
     let e : 1 + length (rows_in answers k) ≡ k + 1 = omega (arith, rows_count answers k) in
     rw (rows_next answers k) (lines_snoc 1 (rows_in answers k) (row_at answers k) ∙ rw e refl)
 
-pub count_none : (answer : ℕ) → count_of [] answer ≡ 0
-unfolding count_of
-count_none answer = refl
-
-pub count_next : (answers : List ℤ) (k answer : ℕ) → count_of (rows_in answers (k + 1)) answer ≡ count_of (rows_in answers k) answer + cond (eqb (row_at answers k).answer answer) 1 0
-unfolding count_of
-count_next answers k answer = rw (rows_next answers k) (count_++ (λ row. eqb row.answer answer) (rows_in answers k) (row_at answers k ∷ []))
-
 pub count_small : (answers : List ℤ) (n answer : ℕ) → count_of (rows_in answers n) answer ≤ n
 unfolding count_of
 count_small answers n answer = omega (arith, count_le (λ row. eqb row.answer answer) (rows_in answers n), rows_count answers n)
@@ -75,3 +69,33 @@ largest_small {answers} zero f = let e = ap largest (rows_none answers) in omega
 largest_small {answers} (suc n) f =
     let e : suc n ≡ n + 1 = omega arith in
     rw e (omega (arith, largest_next answers n, largest_small n (fewer n (omega arith) f), (f.rows n (omega arith)).answer))
+
+-- ════ the rows by their directions
+
+numbers_are : (from many : ℕ) → range_with_len from many ≡ numbers_from from many
+numbers_are from zero = refl
+numbers_are from (suc many) = let e : from + 1 ≡ suc from = omega arith in ap (λ (ns : List ℕ). from ∷ ns) (ap (λ (k : ℕ). range_with_len k many) e ∙ numbers_are (suc from) many)
+
+module _ (answers : List ℤ) where
+  abbrev pub answer_of : ℕ → ℕ
+  answer_of k = (row_at answers k).answer
+
+  counted_in : (answer : ℕ) (ns : List ℕ) → length (filter (λ k. eqb (answer_of k) answer) ns) ≡ count (λ row. eqb row.answer answer) (map (row_at answers) ns)
+  counted_in answer [] = refl
+  counted_in answer (n ∷ ns) = by_test (eqb (answer_of n) answer) (λ t. rw t (ap suc (counted_in answer ns))) (λ f. rw f (counted_in answer ns))
+
+  pub counted : (n answer : ℕ) → length (filter (λ k. eqb (answer_of k) answer) (range_with_len 0 n)) ≡ count_of (rows_in answers n) answer
+  unfolding rows_in count_of
+  counted n answer = ap (λ (ns : List ℕ). length (filter (λ k. eqb (answer_of k) answer) ns)) (numbers_are 0 n) ∙ counted_in answer (numbers_from 0 n)
+
+  largest_from : (most : ℕ) (ns : List ℕ) → fold max most (map answer_of ns) ≡ max most (largest (map (row_at answers) ns))
+  largest_from most [] = omega arith
+  largest_from most (n ∷ ns) = omega (arith, largest_from (max most (answer_of n)) ns)
+
+  largest_in : (ns : List ℕ) → unwrap_or (reduce max (map answer_of ns)) 0 ≡ largest (map (row_at answers) ns)
+  largest_in [] = refl
+  largest_in (n ∷ ns) = largest_from (answer_of n) ns
+
+  pub largest_is : (n : ℕ) → unwrap_or (reduce max (map answer_of (range_with_len 0 n))) 0 ≡ largest (rows_in answers n)
+  unfolding rows_in
+  largest_is n = ap (λ (ns : List ℕ). unwrap_or (reduce max (map answer_of ns)) 0) (numbers_are 0 n) ∙ largest_in (numbers_from 0 n)

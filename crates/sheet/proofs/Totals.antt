@@ -1,4 +1,4 @@
--- The numbers of a Z line: as code holds them they are those of the line, each can be put, and there is room.
+-- The numbers of a Z line: as code holds them they are those of the line, and there is room.
 use Prim.Native.Nat.{ℕ, ◌*◌, ◌≤◌}
 use native.Mathlib.Omega.{arith}
 use mathlib.Core.Path.{◌≡◌, ap, ◌∙◌, subst}
@@ -9,12 +9,10 @@ use mir.Syntax.{w64}
 use mir.Val.{to_z}
 use Rattle.laws.specs.Integers.{Within}
 use Rattle.laws.specs.Lists.{numbers_from, sumℤ}
-use Rattle.laws.proofs.Bounds.{within_mono}
 use Rattle.laws.proofs.Got.{i64, held, kept}
 use Rattle.meaning.specs.State.{score_bound}
 use Rattle.meaning.specs.Sheet.{total_line, printed}
-use Rattle.printing.specs.Lines.{Printable}
-use Rattle.printing.proofs.Numbers.{none_put, and_put, nat_put, cast_is}
+use Rattle.printing.proofs.Numbers.{cast_is}
 use Rattle.sheet.specs.Rows.{number_at, rows_in, Fits}
 use Rattle.sheet.proofs.Rows.{rows_count}
 use Rattle.sheet.proofs.Lengths.{total_short}
@@ -42,11 +40,6 @@ module _ {answers : List ℤ} {n : ℕ} (f : Fits answers n) where
       let b = (kept w64 (held (p ∙ words_sum f) words_within) (omega arith)).is in
       let d = (kept w64 (held (q ∙ score_sum f) score_within) (omega arith)).is in
       λ j. a j ∷ b j ∷ d j ∷ []
-
-  pub total_put : Printable (total_line (rows_in answers n)).numbers
-  total_put =
-      and_put (nat_put _ (omega (arith, f.few, rows_count answers n)))
-      (and_put (within_mono (omega arith) words_within) (and_put (within_mono (omega arith) score_within) none_put))
 
   pub total_fits : length (printed (total_line (rows_in answers n))) ≤ 26
   total_fits = total_short (length (rows_in answers n)) words score (omega (arith, f.few, rows_count answers n)) words_within score_within

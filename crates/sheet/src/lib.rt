@@ -22,7 +22,7 @@ fn put_direction(out: &mut [u8], at: usize, answers: &[i64], count: usize, k: us
         answers[first + 1],
         answers[first + 3],
     ];
-    printing::put_line(out, at, 78, &numbers)
+    printing::put_line(out, at, b'N', &numbers)
 }
 
 // Puts the N lines.
@@ -32,10 +32,8 @@ fn put_directions(out: &mut [u8], answers: &[i64], count: usize) -> usize
     ensures { Put (concat (map printed (direction_lines 1 (rows_in answers.now count)))) 0 result out.old out.new }
 {
     let mut next = 0;
-    let mut k = 0;
-    while k < count {
+    for k in 0..count {
         next = put_direction(out, next, answers, count, k);
-        k += 1;
     }
     next
 }
@@ -49,33 +47,14 @@ fn answer_at(answers: &[i64], count: usize, k: usize) -> usize
     answers[9 * k] as usize
 }
 
-// One more, where it is one of those that are counted.
-fn counted(found: usize, is: bool) -> usize
-    requires { found ≤ 64 }
-    ensures { result ≡ found + cond is 1 0 }
-{
-    if is { found + 1 } else { found }
-}
-
 // How many directions have that answer.
 fn count_of(answers: &[i64], count: usize, answer: usize) -> usize
     requires { Fits answers.now count }
     ensures { result ≡ count_of (rows_in answers.now count) answer }
 {
-    let mut found = 0;
-    let mut k = 0;
-    while k < count {
-        found = counted(found, answer_at(answers, count, k) == answer);
-        k += 1;
-    }
-    found
-}
-
-// The larger of two.
-fn larger(a: usize, b: usize) -> usize
-    ensures { result ≡ max a b }
-{
-    if a <= b { b } else { a }
+    (0..count)
+        .filter(|k| answer_at(answers, count, *k) == answer)
+        .count()
 }
 
 // The largest answer.
@@ -83,13 +62,10 @@ fn largest_of(answers: &[i64], count: usize) -> usize
     requires { Fits answers.now count }
     ensures { result ≡ largest (rows_in answers.now count) }
 {
-    let mut most = 0;
-    let mut k = 0;
-    while k < count {
-        most = larger(most, answer_at(answers, count, k));
-        k += 1;
-    }
-    most
+    (0..count)
+        .map(|k| answer_at(answers, count, k))
+        .max()
+        .unwrap_or(0)
 }
 
 // Puts the E line of an answer that occurred.
@@ -103,7 +79,7 @@ fn put_answer(out: &mut [u8], at: usize, answers: &[i64], count: usize, answer: 
         return at;
     }
     let numbers = [answer as i64, found as i64];
-    printing::put_line(out, at, 69, &numbers)
+    printing::put_line(out, at, b'E', &numbers)
 }
 
 // Puts the E lines, rising.
@@ -114,10 +90,8 @@ fn put_answers(out: &mut [u8], at: usize, answers: &[i64], count: usize) -> usiz
 {
     let most = largest_of(answers, count);
     let mut next = at;
-    let mut answer = 0;
-    while answer <= most {
+    for answer in 0..=most {
         next = put_answer(out, next, answers, count, answer);
-        answer += 1;
     }
     next
 }
@@ -130,10 +104,8 @@ fn sum_of(answers: &[i64], count: usize, place: usize) -> i64
     ensures { result ≡ sumℤ (map (number_at answers.now place) (numbers_from 0 count)) }
 {
     let mut sum = 0;
-    let mut k = 0;
-    while k < count {
+    for k in 0..count {
         sum += answers[9 * k + place];
-        k += 1;
     }
     sum
 }
@@ -147,7 +119,7 @@ fn put_total(out: &mut [u8], at: usize, answers: &[i64], count: usize) -> usize
     let words = sum_of(answers, count, 3);
     let score = sum_of(answers, count, 1);
     let numbers = [count as i64, words, score];
-    printing::put_line(out, at, 90, &numbers)
+    printing::put_line(out, at, b'Z', &numbers)
 }
 
 // Puts the sheet of the first `count` answers at the beginning of the list, and says how many bytes it is.

@@ -4,13 +4,10 @@ use mathlib.Core.Path.{◌≡◌, refl, sym, ap, ◌∙◌}
 use mathlib.Core.Bool.{true, false}
 use mathlib.Core.List.{List}
 use native.Mathlib.Omega.{arith}
-use lib.Dec.{eqb}
 use lib.ListN.{length, get_or, set, length-set}
 use lib.Seq.{get_or-set_same, get_or-set_other}
-use borrow.Author.Tests.{eqb-true, eqb-false}
 use Rattle.laws.specs.Index.{Walk}
 use Rattle.laws.proofs.Index.{chained_none, chained_more, walk_start, walk_step, walk_less, walk_out, walk_hit}
-use Rattle.laws.proofs.Tests.{by_test}
 use Rattle.arpa.specs.Lines.{eq_bytes}
 use Rattle.spelling.specs.Lines.{line_at, Starts}
 use Rattle.spelling.specs.Index.{bucket_count, bucket_of, spelled_before, bucket_at, spells, links_from, index_size, head_at, link_at, Cleared, Indexed}
@@ -48,14 +45,6 @@ module _ {list index starts : List ℕ} {n : ℕ} (x : Indexed list index starts
   search_out w z = sym (walk_out w z) ∙ latest_spells list word n x.lines.within
 
 -- ---- no line, and one more
-
--- one head more is cleared
-pub heads_none : (index : List ℕ) (k : ℕ) → ((j : ℕ) → j < k → head_at index j ≡ 0) → k < length index → (j : ℕ) → j < k + 1 → head_at (set index k 0) j ≡ 0
-unfolding head_at
-heads_none index k h l j m =
-    by_test (eqb j k)
-    (λ e. let q : j ≡ k = eqb-true j k e in rw q (get_or-set_same index k 0 0 l))
-    (λ f. let d = eqb-false j k f in get_or-set_other index k j 0 0 d ∙ h j (omega (arith, d)))
 
 pub index_none : {list index starts : List ℕ} {n : ℕ} → Starts list starts n → index_size ≤ length index → Cleared index → Indexed list index starts 0
 index_none {list} {index} s r c =

@@ -1,30 +1,34 @@
 -- Words: the bucket of one, and that the latest line that is the word and the first of its spelling is the first line that is the word.
+use Rattle.std.specs.List.{fold}
 use Prim.Native.Nat.{ℕ, zero, suc, ◌+◌, ◌*◌, ◌%◌, ◌<◌, ◌≤◌}
 use mathlib.Core.Path.{◌≡◌, refl, sym, ap, ◌∙◌}
 use mathlib.Core.Bool.{true, cond, and-false}
 use mathlib.Core.List.{List, [], ◌∷◌, ◌++◌}
 use native.Mathlib.Omega.{arith}
 use lib.Dec.{eqb}
-use lib.ListN.{length, get_or, take, drop, drop_of_length-le}
+use lib.ListN.{length, get_or, take}
 use lib.Seq.{take-suc, take-length, length-take-le}
 use borrow.Author.Tests.{eqb-true, ne_eqb}
 use Rattle.laws.specs.Index.{latest}
 use Rattle.laws.proofs.Index.{latest_zero, latest_hit, latest_miss}
-use Rattle.laws.proofs.Lists.{drop_next, eq_list_is}
+use Rattle.laws.proofs.Lists.{eq_list_is}
 use Rattle.laws.proofs.Tests.{by_test, both}
 use Rattle.arpa.specs.Lines.{eq_bytes}
 use Rattle.arpa.specs.Words.{spellings, first_from, spelled}
 use Rattle.spelling.specs.Lines.{line_at}
 use Rattle.spelling.specs.Index.{bucket_count, repeats, hash_from, bucket_of, spelled_before, is_first, bucket_at, spells}
 
--- ---- the bucket: one turn of a loop over the bytes
+-- ---- the bucket: a byte more, as code's arithmetic of 32 bits has it, and all bytes
 
-module _ (word : List ℕ) (h i : ℕ) where
-  pub hash_more : i < length word → hash_from h (drop i word) ≡ hash_from ((h * 16777619 + get_or word i 0 + 1) % 4294967296) (drop (i + 1) word)
-  hash_more l = rw (drop_next word i 0 l)
+abbrev pub hash_more : ℕ → ℕ → ℕ
+hash_more h b = ((h * 16777619 % 4294967296 + b) % 4294967296 + 1) % 4294967296
 
-  pub hash_end : length word ≤ i → hash_from h (drop i word) ≡ h
-  hash_end l = rw (drop_of_length-le word l)
+hash_step : (h b : ℕ) → hash_more h b ≡ (h * 16777619 + b + 1) % 4294967296
+hash_step h b = omega arith
+
+pub hash_all : (h : ℕ) (word : List ℕ) → fold hash_more h word ≡ hash_from h word
+hash_all h [] = refl
+hash_all h (b ∷ word) = hash_all (hash_more h b) word ∙ ap (λ (n : ℕ). hash_from n word) (hash_step h b)
 
 -- ---- the first line that is the word
 

@@ -1,5 +1,5 @@
 -- The index of the word list's lines: one list in named parts, the heads of the buckets and the lines' links.
-use Rattle.std.specs.Prelude.{ℕ, ◌+◌, ◌*◌, ◌/◌, ◌%◌, ◌≤◌, ◌<◌, ◌≡◌, Bool, ◌&&◌, cond, List, [], ◌∷◌, eqb, length, get_or, take}
+use Rattle.std.specs.Prelude.{ℕ, ◌+◌, ◌*◌, ◌/◌, ◌%◌, ◌≤◌, ◌<◌, ◌≡◌, Bool, ◌&&◌, cond, List, [], ◌∷◌, eqb, length, get_or, take, Option, MatchOption}
 use Rattle.laws.specs.Index.{Chained}
 use Rattle.arpa.specs.Lines.{eq_bytes}
 use Rattle.arpa.specs.Words.{spelled_most, spellings, first_from}
@@ -25,6 +25,10 @@ bucket_of word = hash_from 0 word * 2_654_435_769 % 4_294_967_296 / 65_536
 -- the number of a word by the first n lines, 0 where it is none of them
 unfoldable pub spelled_before : List ℕ → ℕ → List ℕ → ℕ
 spelled_before list n word = first_from 1 word (take n (spellings list))
+
+-- the number n of a word as code has it, which has none for 0
+abbrev pub NumberIs : ℕ → Option ℕ → Type 0
+NumberIs n number = MatchOption number (n ≡ 0) (λ k. (0 < k) × (k ≡ n))
 
 -- no line before line k equals it
 unfoldable pub is_first : List ℕ → ℕ → Bool

@@ -3,18 +3,15 @@
 // each line from LINKS on. A head or a link is 1 + a line's number, from 0 on, or 0.
 #![tactic(auto)]
 
-ghost use Rattle.std.specs.Prelude.{◌≡◌, ◌+◌, ◌≤◌, ◌<◌, length, drop};
+ghost use Rattle.std.specs.Prelude.{◌≡◌, ◌+◌, ◌≤◌, ◌<◌, length};
 ghost use Rattle.arpa.specs.Words.{spelled};
-ghost use Rattle.spelling.specs.Lines.{line_size, line_at, starts_size, Starts, Lined};
-ghost use Rattle.spelling.specs.Index.{bucket_count, bucket_of, spelled_before, bucket_at, links_from, index_size, Cleared, Indexed, Spelling};
+ghost use Rattle.spelling.specs.Lines.{line_at, starts_size, Starts, Lined};
+ghost use Rattle.spelling.specs.Index.{bucket_count, bucket_of, spelled_before, NumberIs, bucket_at, links_from, index_size, Cleared, Indexed, Spelling};
 
-use tokens::same::same_bytes;
+use tokens::scan::run_end;
 
 // "to 65,534"
 const WORDS_MOST: usize = 65534;
-
-// The line's byte 10.
-const NEWLINE: u8 = 10;
 
 // How many buckets there are, and the one more, of the lines that equal an earlier one.
 const BUCKETS: usize = 65536;
@@ -31,21 +28,6 @@ pub const STARTS_SIZE: usize = WORDS_MOST + 1;
 
 // ---- the lines
 
-// Where the line that starts at `at` ends: the place of its byte 10, or the text's end.
-fn line_end(text: &[u8], at: usize) -> usize
-    requires { at ≤ length text.now }
-    ensures { result ≡ at + line_size (drop at text.now) }
-{
-    let mut i = at;
-    while i < text.len() {
-        if text[i] == NEWLINE {
-            return i;
-        }
-        i += 1;
-    }
-    i
-}
-
 // Where each line starts, and behind the last where one more would: line k ends just before the place that `starts` has for line k + 1. How many
 // lines there are, at most WORDS_MOST.
 fn find_lines(list: &[u8], starts: &mut [usize]) -> usize
@@ -54,35 +36,28 @@ fn find_lines(list: &[u8], starts: &mut [usize]) -> usize
 {
     starts[0] = 0;
     let mut at = 0;
-    let mut i = 0;
-    while i < WORDS_MOST && at <= list.len() {
-        at = line_end(list, at) + 1;
-        i += 1;
-        starts[i] = at;
+    for i in 0..WORDS_MOST {
+        if list.len() < at {
+            return i;
+        }
+        at = run_end(list, at, |b| b != b'\n') + 1;
+        starts[i + 1] = at;
     }
-    i
+    WORDS_MOST
 }
 
 // ---- the buckets
-
-// A byte as a number.
-fn wide(b: u8) -> u64
-    ensures { (result ≡ b) × (result < 256) }
-{
-    b as u64
-}
 
 // The bucket of a word.
 fn bucket(word: &[u8]) -> usize
     ensures { (result ≡ bucket_of word.now) × (result < bucket_count) }
 {
-    let mut h = 0u64;
-    let mut i = 0;
-    while i < word.len() {
-        h = (h * 16777619 + wide(word[i]) + 1) % 4294967296;
-        i += 1;
-    }
-    (h * 2654435769 % 4294967296 / 65536) as usize
+    let hash = word.iter().fold(0u32, |h, b| {
+        h.wrapping_mul(16777619)
+            .wrapping_add(u32::from(*b))
+            .wrapping_add(1)
+    });
+    (hash.wrapping_mul(2654435769) / 65536) as usize
 }
 
 // ---- the search
@@ -97,30 +72,29 @@ fn line_at<'a>(list: &'a [u8], starts: &[usize], k: usize) -> &'a [u8]
     &list[at..end]
 }
 
-// Walks the chain of the word's bucket h: the number of the word by the first `count` lines, 0 where it is none of them.
-fn find(list: &[u8], index: &[u16], starts: &[usize], count: usize, word: &[u8], h: usize) -> usize
+// Walks the chain of the word's bucket h: the number of the word, where it is one of the first `count` lines.
+fn find(
+    list: &[u8],
+    index: &[u16],
+    starts: &[usize],
+    count: usize,
+    word: &[u8],
+    h: usize,
+) -> Option<usize>
     requires indexed { Indexed list.now index.now starts.now count }
     requires h_value { (h ≡ bucket_of word.now) × (h < bucket_count) }
-    ensures { result ≡ spelled_before list.now count word.now }
+    ensures { NumberIs (spelled_before list.now count word.now) result }
 {
     let mut at = halves::number_at(index, h);
+    // No iterator: the chain goes from link to link, as they stand in the list.
     while at > 0 {
         let k = at - 1;
-        if same_bytes(line_at(list, starts, k), word) {
-            return at;
+        if line_at(list, starts, k) == word {
+            return Some(at);
         }
         at = halves::number_at(index, LINKS + k);
     }
-    0
-}
-
-// The number of a word by the word list, 0 where it is not in it.
-pub fn find_word(list: &[u8], index: &[u16], starts: &[usize], count: usize, word: &[u8]) -> usize
-    requires { Spelling list.now index.now starts.now count }
-    ensures { result ≡ spelled list.now word.now }
-{
-    let h = bucket(word);
-    find(list, index, starts, count, word, h)
+    None
 }
 
 // ---- the index
@@ -130,11 +104,7 @@ fn clear(index: &mut [u16])
     requires { links_from ≤ length index.old }
     ensures { Cleared index.new }
 {
-    let mut k = 0;
-    while k < LINKS {
-        index[k] = 0;
-        k += 1;
-    }
+    index[..LINKS].fill(0);
 }
 
 // The bucket of line i, where the lines before it are indexed: that of its bytes, unless one of them equals it.
@@ -145,10 +115,10 @@ fn bucket_at(list: &[u8], index: &[u16], starts: &[usize], i: usize) -> usize
 {
     let line = line_at(list, starts, i);
     let h = bucket(line);
-    if find(list, index, starts, i, line, h) == 0 {
-        return h;
+    match find(list, index, starts, i, line, h) {
+        Some(_) => REPEATS,
+        None => h,
     }
-    REPEATS
 }
 
 // Puts line i before the others of its bucket.
@@ -169,20 +139,46 @@ fn index_lines(list: &[u8], index: &mut [u16], starts: &[usize], count: usize)
     ensures { Spelling list.now index.new starts.now count }
 {
     clear(index);
-    let mut i = 0;
-    while i < count {
+    for i in 0..count {
         insert(list, index, starts, i);
-        i += 1;
     }
 }
 
-// Indexes the lines of a word list; how many there are, at most 65,534.
-pub fn index_words(list: &[u8], index: &mut [u16], starts: &mut [usize]) -> usize
-    requires index_size_in_bounds { index_size ≤ length index.old }
-    requires starts_size_in_bounds { starts_size ≤ length starts.old }
-    ensures { Spelling list.now index.new starts.new result }
-{
-    let count = find_lines(list, starts);
-    index_lines(list, index, starts, count);
-    count
+// ---- the word list
+
+// A word list whose lines are indexed: its bytes, the index, where the lines start, and how many there are, at most 65,534.
+#[derive(Clone, Copy)]
+pub struct WordList<'a> {
+    list: &'a [u8],
+    index: &'a [u16],
+    starts: &'a [usize],
+    count: usize,
+    ghost spelling: { Spelling list.now index.now starts.now count },
+}
+
+impl<'a> WordList<'a> {
+    // Indexes the lines of a word list.
+    pub fn new(list: &'a [u8], index: &'a mut [u16], starts: &'a mut [usize]) -> WordList<'a>
+        requires index_size_in_bounds { index_size ≤ length index.old }
+        requires starts_size_in_bounds { starts_size ≤ length starts.old }
+        ensures { result.list.now ≡ list.now }
+    {
+        let count = find_lines(list, starts);
+        index_lines(list, index, starts, count);
+        WordList {
+            list,
+            index,
+            starts,
+            count,
+        }
+    }
+
+    // The number of a word, where it is in the list.
+    #[tactic(auto, using(crate::proofs::Words::before_all))]
+    pub fn number_of(&self, word: &[u8]) -> Option<usize>
+        ensures { NumberIs (spelled self.now.list.now word.now) result }
+    {
+        let h = bucket(word);
+        find(self.list, self.index, self.starts, self.count, word, h)
+    }
 }

@@ -15,6 +15,7 @@ use lib.Pow.{pow_pos}
 use lib.Signed.{lt_z}
 use lib.ListN.{length, get_or, set, length-append, length-set, get_or-append}
 use lib.Seq.{get_or-set_same, get_or-set_other, get_or-append_seam}
+use Rattle.std.specs.Prelude.{Option, Result, Ok, Err}
 use Rattle.laws.specs.Integers.{Within}
 use Rattle.laws.specs.Lists.{larger, max_from}
 use Rattle.laws.proofs.Bounds.{within_mono}
@@ -44,14 +45,12 @@ use Rattle.ways.specs.Codes.{step_of, codes}
 use Rattle.ways.specs.Ties.{Walked, Beside}
 use Rattle.states.specs.Order.{Walks, Leading}
 use Rattle.states.specs.Shows.{Shows, Lists}
-use Rattle.states.specs.Ghost.{in_width, option_at, Held, Starting, Levelling, Growing, Chosen, top_of, After, Grew, Levelled, NextPlace}
+use Rattle.states.specs.Ghost.{in_width, option_at, Held, Starting, Levelling, Growing, Chosen, top_of, After, NextPlace}
 use Rattle.states.specs.Answer.{sized, no_close, picked}
 use Rattle.store.specs.declared.Place.{Place}
-use Rattle.store.specs.declared.Found.{Found}
 use Rattle.states.specs.declared.Added.{Added}
-use Rattle.states.specs.declared.Added.TheVariants.{Replaced, Kept, Appended, Full}
-use Rattle.states.specs.declared.Grown.{Grown}
-use Rattle.states.specs.declared.Grown.TheVariants.{On, Overflow}
+use Rattle.states.specs.declared.Added.TheVariants.{Replaced, Kept, Appended}
+use Rattle.states.specs.declared.Full.{Full}
 use Rattle.states.proofs.Showing.{same_place, storable, start_covered}
 use Rattle.states.proofs.Back.{held_size, held_key, held_walked}
 use Rattle.states.proofs.Testing.{tested_is, leading_beside}
@@ -308,9 +307,9 @@ module _ (book : Book) (direction : List ℕ) (width : ℤ) where
               (subst (Legal P) (sym now_q) legal) (get_d_mem (fitting_steps book direction) o no_step ho) may_j h)
 
         -- each answer of add_place
-        pub went : (r : Added) → AddedOf st st' count y r → IndexedAfter st' count r → After book direction width i j (o + 1) st' count r
+        pub went : (r : Result Added Full) → AddedOf st st' count y r → IndexedAfter st' count r → After book direction width i j (o + 1) st' count r
         unfolding leads
-        went Replaced (k, M, u) J =
+        went (Ok Replaced) (k, M, u) J =
             let h : k < length G.list = omega (arith, M.inside, G.long) in
             let M' : Met st (length G.list) y k true = subst (λ (z : ℕ). Met st z y k true) (sym G.long) M in
             let a = add_at i st st' G.list G.held y s shown_y legal_s steps_y k h M' (leading_beside leads M.inside M.same) in
@@ -321,7 +320,7 @@ module _ (book : Book) (direction : List ℕ) (width : ℤ) where
               held = held_set i st st' G.list G.held y s shown_y legal_s k h a.1 u step_in (T-set k u h a.1);
               grow = subst (InGrow P i j q (o + 1)) a.0 taken;
             }
-        went Kept (k, M, u) J =
+        went (Ok Kept) (k, M, u) J =
             let h : k < length G.list = omega (arith, M.inside, G.long) in
             let M' : Met st (length G.list) y k false = subst (λ (z : ℕ). Met st z y k false) (sym G.long) M in
             let a = add_at i st st' G.list G.held y s shown_y legal_s steps_y k h M' (leading_beside leads M.inside M.same) in
@@ -332,7 +331,7 @@ module _ (book : Book) (direction : List ℕ) (width : ℤ) where
               held = subst (λ (z : List ℤ). Held book direction width i z G.list) (sym u) G.held;
               grow = subst (InGrow P i j q (o + 1)) a.0 taken;
             }
-        went Appended (f, r, u) J =
+        went (Ok Appended) (f, r, u) J =
             let a = add_new i st st' G.list G.held y s shown_y legal_s (subst (λ (z : ℕ). Unseen st z y.state) (sym G.long) f) in
             let u' : Put st st' (length G.list) y = subst (λ (z : ℕ). Put st st' z y) (sym G.long) u in
             record {
@@ -342,18 +341,12 @@ module _ (book : Book) (direction : List ℕ) (width : ℤ) where
               held = held_append i st st' G.list G.held y s shown_y legal_s a.0 (omega (arith, G.long)) u' step_in (T-append (length G.list) u' refl);
               grow = subst (InGrow P i j q (o + 1)) a.1 taken;
             }
-        went Full (f, r, u) J =
+        went (Err full) (f, r, u) J =
             let a = add_new i st st' G.list G.held y s shown_y legal_s (subst (λ (z : ℕ). Unseen st z y.state) (sym G.long) f) in
             subst (λ (z : List ℤ). length z / 8 < length (run P)) (sym u)
             (overflow P i j q s nobody (suc o) G.list (length st / 8) A.low
             (option_rest P i j q o no_step G.list ho (may_q e) G.grow)
             a.0 (omega (arith, G.long)))
-
-    pub place_inside : 8 * j + 8 ≤ length st
-    place_inside = omega (arith, kept_long P i (upto P i) G.list G.grow.kept, A.inside, G.held.room)
-
-    pub count_room : 8 * count ≤ length st
-    count_room = omega (arith, G.long, G.held.room)
 
   -- the score of the state that is extended
   pub chosen_score : Ranged book → {i j : ℕ} {x : Place} → Chosen book direction width i j x → Within (gain_bound * i) x.state.score
@@ -454,10 +447,6 @@ module _ (book : Book) (direction : List ℕ) (width : ℤ) where
         level = rw add-one (grow_done P i j (get_or (upto P i) j nobody) o G.list h G.grow);
       }
 
-  pub all_ended : (i j o : ℕ) (st : List ℤ) (r : Grown) → length (fitting_steps book direction) ≤ o → Grew book direction width i j o st r → Levelled book direction width i (j + 1) st r
-  all_ended i j o st (On count) h G = ended h G
-  all_ended i j o st Overflow h g = g
-
   -- ════ one level
   pub level_starts : {i : ℕ} {st : List ℤ} {count : ℕ} → Starting book direction width i st count → Levelling book direction width i 0 st count
   level_starts {i} B = record { list = upto P i; long = B.long; index = B.index; held = B.held; level = level_begin P i }
@@ -471,9 +460,6 @@ module _ (book : Book) (direction : List ℕ) (width : ℤ) where
       record { long = ap length (sym e) ∙ L.long; index = L.index; held = subst (Held book direction width (i + 1) st) e (held_on L.held) }
 
   -- a level's start, for code that only reads
-  pub start_room : {i : ℕ} {st : List ℤ} {count : ℕ} → Starting book direction width i st count → 8 * count ≤ length st
-  start_room B = B.index.few
-
   pub start_lists : {i : ℕ} {st : List ℤ} {count : ℕ} → Starting book direction width i st count → Lists n st count (upto P i)
   start_lists B = record { long = B.long; each = λ k h. B.held.each k (omega (arith, B.long)) }
 
@@ -543,7 +529,7 @@ module _ (book : Book) (direction : List ℕ) (width : ℤ) where
   pub start_walks : {i : ℕ} {st : List ℤ} {count : ℕ} → Starting book direction width i st count → Walks st count
   start_walks {i} B = record { list = upto P i; long = B.long; walked = start_walked B }
 
-  pub best_read : {st : List ℤ} {count : ℕ} → Starting book direction width n st count → (r : Found)
+  pub best_read : {st : List ℤ} {count : ℕ} → Starting book direction width n st count → (r : Option ℕ)
       → ((l : List Hyp) → Walked st l → Lists n st count l → pick words_covered n no_close is_better none l ≡ picked l r) → best P ≡ picked (run P) r
   unfolding run
   best_read B r f = best_pick P ∙ f (upto P n) (start_walked B) (start_lists B)

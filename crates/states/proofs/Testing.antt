@@ -1,7 +1,6 @@
 -- What `is_better` found is the search's test; and what it may be asked of.
 use mathlib.Core.Path.{◌≡◌, sym, ◌∙◌, ap, ap₂, subst}
 use native.Mathlib.Omega.{arith}
-use Rattle.laws.proofs.Linear.{signed}
 use mathlib.Core.Bool.{Bool, true, false, cond}
 use mathlib.Core.List.{List, [], ◌∷◌, ◌++◌}
 use Prim.Native.Nat.{ℕ, ◌<◌}
@@ -32,19 +31,6 @@ module _ {st : List ℤ} {l : List Hyp} (x : Place) (y : State) (k : ℕ) (B : B
       sym (f l B
       ∙ ap₂ (λ (u v : ℤ). by_scores u v (comes_before ((get_or l x.parent nobody).steps ++ (step_of x.step ∷ [])) (get_or l k nobody).steps)) es et
       ∙ ap₂ (λ (v w : List Step). by_scores s.score t.score (comes_before v w)) (sym ss) (sym ts))
-
--- the three answers
-module _ (st : List ℤ) (x : Place) (y : State) (k : ℕ) where
-  pub tested_lower : lt_z x.state.score y.score ≡ true → Tested st x y k false
-  tested_lower e l B = let f : lt_z y.score x.state.score ≡ false = omega (arith, signed) in rw (f, e)
-
-  pub tested_higher : lt_z y.score x.state.score ≡ true → Tested st x y k true
-  tested_higher e l B = rw e
-
-  pub tested_tie : lt_z x.state.score y.score ≡ false → lt_z y.score x.state.score ≡ false → {r : Bool}
-      → ((l : List Hyp) → Beside st l x.parent x.step k → r ≡ comes_before ((get_or l x.parent nobody).steps ++ (step_of x.step ∷ [])) (get_or l k nobody).steps)
-      → Tested st x y k r
-  tested_tie e f g l B = rw (f, e) (g l B)
 
 -- ---- what can be compared
 

@@ -1,7 +1,7 @@
 -- What the loops of the search keep: the store holds the states of the search so far. The list of these states, with the steps that led to each, is no data of
 -- the code but a field of the records (`list`).
 -- A level is a number i below that of the words: the states that cover i words are extended, in the order of their places, each by every option in turn.
-use Rattle.std.specs.Prelude.{◌≡◌, Bool, ◌||◌, List, ℕ, ◌+◌, ◌*◌, ◌/◌, ◌<◌, ◌≤◌, ℤ, ◌+ℤ◌, ◌-ℤ◌, length, get_or}
+use Rattle.std.specs.Prelude.{◌≡◌, Bool, ◌||◌, List, ℕ, ◌+◌, ◌*◌, ◌/◌, ◌<◌, ◌≤◌, ℤ, ◌+ℤ◌, ◌-ℤ◌, length, get_or, Result, Ok, Err}
 use Rattle.std.specs.Int.Signed.{le_z}
 use Rattle.search_theory.specs.Search.{Problem, set_of, upto, run}
 use Rattle.search_theory.specs.Statements.{Legal, InLevel, InGrow, Traced}
@@ -17,9 +17,8 @@ use Rattle.ways.specs.Codes.{step_of, codes}
 use Rattle.states.specs.Shows.{Fine, Shows}
 use Rattle.store.specs.declared.Place.{Place}
 use Rattle.states.specs.declared.Added.{Added}
-use Rattle.states.specs.declared.Added.TheVariants.{Replaced, Kept, Appended, Full}
-use Rattle.states.specs.declared.Grown.{Grown}
-use Rattle.states.specs.declared.Grown.TheVariants.{On, Overflow}
+use Rattle.states.specs.declared.Added.TheVariants.{Replaced, Kept, Appended}
+use Rattle.states.specs.declared.Full.{Full}
 
 -- the beam's test, of the set's best score and a state's
 abbrev pub in_width : ℤ → ℤ → ℤ → Bool
@@ -76,24 +75,24 @@ module _ (book : Book) (direction : List ℕ) (width : ℤ) where
   top_of i = best_score (set_of P i (upto P i))
 
   -- the place after an option: each answer of add_place
-  abbrev pub After : ℕ → ℕ → ℕ → List ℤ → ℕ → Added → Type 0
-  After i j o st count Replaced = Growing i j o st count
-  After i j o st count Kept = Growing i j o st count
-  After i j o st count Appended = Growing i j o st (count + 1)
-  After i j o st count Full = length st / 8 < length (run P)
+  abbrev pub After : ℕ → ℕ → ℕ → List ℤ → ℕ → Result Added Full → Type 0
+  After i j o st count (Ok Replaced) = Growing i j o st count
+  After i j o st count (Ok Kept) = Growing i j o st count
+  After i j o st count (Ok Appended) = Growing i j o st (count + 1)
+  After i j o st count (Err full) = length st / 8 < length (run P)
 
   -- what the search's functions answer: the count and what holds of the store, or that it is too small
-  abbrev pub Grew : ℕ → ℕ → ℕ → List ℤ → Grown → Type 0
-  Grew i j o st (On count) = Growing i j o st count
-  Grew i j o st Overflow = length st / 8 < length (run P)
+  abbrev pub Grew : ℕ → ℕ → ℕ → List ℤ → Result ℕ Full → Type 0
+  Grew i j o st (Ok count) = Growing i j o st count
+  Grew i j o st (Err full) = length st / 8 < length (run P)
 
-  abbrev pub Levelled : ℕ → ℕ → List ℤ → Grown → Type 0
-  Levelled i j st (On count) = Levelling i j st count
-  Levelled i j st Overflow = length st / 8 < length (run P)
+  abbrev pub Levelled : ℕ → ℕ → List ℤ → Result ℕ Full → Type 0
+  Levelled i j st (Ok count) = Levelling i j st count
+  Levelled i j st (Err full) = length st / 8 < length (run P)
 
-  abbrev pub Reached : ℕ → List ℤ → Grown → Type 0
-  Reached i st (On count) = Starting i st count
-  Reached i st Overflow = length st / 8 < length (run P)
+  abbrev pub Reached : ℕ → List ℤ → Result ℕ Full → Type 0
+  Reached i st (Ok count) = Starting i st count
+  Reached i st (Err full) = length st / 8 < length (run P)
 
 -- y is what extending x, the place j, by the option o leads to
 pub record NextPlace (book : Book) (direction : List ℕ) (x : Place) (j o : ℕ) (y : Place) : Type 0 where

@@ -9,29 +9,22 @@ ghost use Rattle.states.specs.Shows.{Lists};
 ghost use Rattle.states.specs.Ghost.{in_width};
 ghost use Rattle.ways.specs.Ties.{Walked};
 ghost use Rattle.states.specs.Order.{Walks};
-ghost use Rattle.states.specs.Answer.{sized, raised, closed_at, Below, no_close, picked, with_place};
+ghost use Rattle.states.specs.Answer.{sized, raised, Below, no_close, picked, with_place};
 
-use crate::{Top, order};
+use crate::order;
 use meaning::State;
-use store::{Found, Place, places};
+use store::{Place, places};
 
-// The best score with that of x, if x covers i words.
-fn raise(top: Top, x: Place, i: usize) -> Top
+// The best score so far, if there is one, with that of x, if x covers i words.
+fn raise(top: Option<i64>, x: Place, i: usize) -> Option<i64>
     ensures { result ≡ raised i top x.size x.state.score }
 {
     if x.size != i {
         return top;
     }
-    let a = top.score;
-    let b = x.state.score;
-    if top.any {
-        if b <= a {
-            return top;
-        }
-    }
-    Top {
-        any: true,
-        score: b,
+    match top {
+        Some(best) => Some(best.max(x.state.score)),
+        None => Some(x.state.score),
     }
 }
 
@@ -40,16 +33,11 @@ pub fn top_score(store: &[i64], count: usize, i: usize) -> i64
     requires { 8 * count ≤ length store.now }
     ensures { (n : ℕ) (l : List Hyp) → Lists n store.now count l → result ≡ best_score (sized i l) }
 {
-    let mut top = Top {
-        any: false,
-        score: 0,
-    };
-    let mut k = 0;
-    while k < count {
+    let mut top = None;
+    for k in 0..count {
         top = raise(top, places::place_at(store, k), i);
-        k += 1;
     }
-    top.score
+    top.unwrap_or(0)
 }
 
 // The beam's test: the state's score is within the width of the best. No difference is too large for the type: top - width could be.
@@ -57,23 +45,11 @@ pub fn is_within(top: i64, x: State, width: i64) -> bool
     requires { Within score_bound top × Within score_bound x.score }
     ensures { result ≡ in_width width top x.score }
 {
-    if width == -1 {
-        true
-    } else {
-        let score = x.score;
-        top - score <= width
-    }
+    width == -1 || top - x.score <= width
 }
 
-// A place whose state has what it gains at the end of the search, before the best one is picked: it gains nothing.
-fn closed(x: Place) -> Place
-    ensures { (n : ℕ) → result ≡ closed_at n x }
-{
-    x
-}
-
-// The better of a place and the place k, if that covers n words, with what their states gain at the end. (`count` is for the contract.)
-fn better_of(store: &[i64], count: usize, best: Found, k: usize, n: usize) -> Found
+// The better of a place and the place k, if that covers n words. (`count` is for the contract.)
+fn better_of(store: &[i64], count: usize, best: Option<usize>, k: usize, n: usize) -> Option<usize>
     requires walks { Walks store.now count × (k < count) }
     requires below { Below n store.now k best }
     ensures below_2 { Below n store.now (k + 1) result }
@@ -84,29 +60,27 @@ fn better_of(store: &[i64], count: usize, best: Found, k: usize, n: usize) -> Fo
         return best;
     }
     match best {
-        Found::Nothing => Found::At(k),
-        Found::At(j) => {
+        None => Some(k),
+        Some(j) => {
             let y = places::place_at(store, j);
-            if order::is_better(store, closed(x), closed(y).state, j) {
-                Found::At(k)
+            if order::is_better(store, x, y.state, j) {
+                Some(k)
             } else {
-                Found::At(j)
+                Some(j)
             }
         }
     }
 }
 
 // The place of the best state that covers n words, of the first count: "a highest score in set n", and of those the one whose steps come first.
-pub fn pick_best(store: &[i64], count: usize, n: usize) -> Found
+pub fn pick_best(store: &[i64], count: usize, n: usize) -> Option<usize>
     requires { Walks store.now count }
     ensures below { Below n store.now count result }
     ensures l_value { (l : List Hyp) → Walked store.now l → Lists n store.now count l → pick words_covered n no_close is_better none l ≡ picked l result }
 {
-    let mut best = Found::Nothing;
-    let mut k = 0;
-    while k < count {
+    let mut best = None;
+    for k in 0..count {
         best = better_of(store, count, best, k, n);
-        k += 1;
     }
     best
 }

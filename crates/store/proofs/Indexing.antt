@@ -154,9 +154,6 @@ indexed_none st n long e =
     zero_at p = ap (λ (s : List ℤ). get_or s p (pos 0)) e ∙ zeros n p
 
 -- ---- what `clear_places` does
-pub clear_starts : (st : List ℤ) → Clearing st st 0
-clear_starts st = record { long = refl; done = λ j f l m. absurd (omega arith); ahead = λ j f l m. refl; cleared = λ j l. absurd (omega arith); heads = λ h l. inr refl }
-
 -- the state of a place that is still to come is that of the start
 state_ahead : {old st : List ℤ} {k : ℕ} → Clearing old st k → place_at st k ≡ place_at old k
 state_ahead {old} {st} {k} C = places_same old st k (λ f l m. C.ahead k f (omega arith) l)

@@ -1,39 +1,18 @@
--- What the writes of `put_place`, `link_place` and `clear_place` come to, and the tests of `is_same`.
+-- What the writes of `put_place` and `link_place` come to.
 -- The numbers of a place are packed and read back by division: that is all the arithmetic here.
-use mathlib.Core.Path.{◌≡◌, refl, sym, ap, ◌∙◌, subst}
+use mathlib.Core.Path.{◌≡◌, sym, ap, ◌∙◌, subst}
 use mathlib.Core.List.{List, [], ◌∷◌}
-use Prim.Native.Nat.{ℕ, zero, suc, ◌+◌, ◌*◌, ◌/◌, ◌%◌, ◌≤◌, ◌<◌}
+use Prim.Native.Nat.{ℕ, suc, ◌+◌, ◌*◌, ◌/◌, ◌%◌, ◌≤◌, ◌<◌}
 use native.Mathlib.Omega.{arith}
-use lib.Dec.{eqb}
 use lib.IntN.{ℤ, pos}
 use lib.ListN.{length, get_or, set, length-set}
 use lib.Seq.{get_or-set_same, get_or-set_other}
-use borrow.Author.Tests.{eq-eqb, ne_eqb}
 use Rattle.laws.specs.Integers.{nat_of}
 use Rattle.laws.specs.Lists.{set_at, set_from}
 use Rattle.laws.proofs.Fields.{set_long, set_far, set_near, from_long, from_far, from_first, from_near}
-use Rattle.laws.proofs.Tests.{and_first, and_second}
 use Rattle.meaning.specs.declared.State.{State}
-use Rattle.store.specs.Store.{place_from, number_at, nat_at, place_at, head_at, link_at, words_of, Storable, Put, Spare, Relinked, is_same, Zeroed}
+use Rattle.store.specs.Store.{place_from, number_at, nat_at, place_at, head_at, link_at, words_of, Storable, Put, Spare, Relinked}
 use Rattle.store.specs.declared.Place.{Place}
-
--- ---- the test of two states, as the code goes through it
-module _ (y x : State) where
-  pub same_1 : (y.word1 ≡ x.word1 → ⊥) → eqb y.word1 x.word1 ≡ is_same y x
-  unfolding is_same
-  same_1 n = and_first _ _ (ne_eqb _ _ n)
-
-  pub same_2 : y.word1 ≡ x.word1 → (y.word2 ≡ x.word2 → ⊥) → eqb y.word2 x.word2 ≡ is_same y x
-  unfolding is_same
-  same_2 a n = and_first _ _ (ne_eqb _ _ n) ∙ and_second _ _ (eq-eqb _ _ a)
-
-  pub same_3 : y.word1 ≡ x.word1 → y.word2 ≡ x.word2 → (y.covered ≡ x.covered → ⊥) → eqb y.covered x.covered ≡ is_same y x
-  unfolding is_same
-  same_3 a b n = and_first _ _ (ne_eqb _ _ n) ∙ and_second _ _ (eq-eqb _ _ b) ∙ and_second _ _ (eq-eqb _ _ a)
-
-  pub same_4 : y.word1 ≡ x.word1 → y.word2 ≡ x.word2 → y.covered ≡ x.covered → eqb y.r x.r ≡ is_same y x
-  unfolding is_same
-  same_4 a b c = and_second _ _ (eq-eqb _ _ c) ∙ and_second _ _ (eq-eqb _ _ b) ∙ and_second _ _ (eq-eqb _ _ a)
 
 -- ---- two numbers in one
 high_part : (n a b : ℕ) → n ≡ a * 65536 + b → a < 65536 → b < 65536 → n / 65536 % 65536 ≡ a
@@ -187,48 +166,4 @@ module _ (st : List ℤ) (k h : ℕ) (x y : ℤ) (hk : 8 * k + 8 ≤ length st) 
         heads = λ g l n. other_number g (λ z. omega arith) n;
         link = ap nat_of (still st linked linked_long k 3 _ (get_or-set_other (set st (place_from st k + 3) x) h (place_from st k + 3) y (pos 0) (λ z. omega arith) ∙ get_or-set_same st (place_from st k + 3) x (pos 0) (omega arith) ∙ ex));
         links = λ j n. ap nat_of (other_link j 3 (omega arith) (λ z. n (omega arith)));
-      }
-
--- ---- the eight writes of `clear_place`
-module _ (st : List ℤ) (k h : ℕ) (hk : 8 * k + 8 ≤ length st) (hh : 8 * h + 8 ≤ length st) where
-  abbrev six : List ℤ
-  six = pos 0 ∷ pos 0 ∷ pos 0 ∷ pos 0 ∷ pos 0 ∷ pos 0 ∷ []
-
-  abbrev emptied : List ℤ
-  emptied = set_from st (place_from st k) (pos 0 ∷ six)
-
-  abbrev zeroes : List ℤ
-  zeroes = set emptied h (pos 0)
-
-  emptied_long : length emptied ≡ length st
-  emptied_long = from_long st (place_from st k) (pos 0 ∷ six)
-
-  zeroes_long : length zeroes ≡ length st
-  zeroes_long = length-set emptied h (pos 0) ∙ emptied_long
-
-  small : (f : ℕ) → f < 7 → get_or emptied (place_from st k + f) (pos 0) ≡ pos 0
-  small zero l = subst (λ (p : ℕ). get_or emptied p (pos 0) ≡ pos 0) (first_number (place_from st k)) (from_first (pos 0) six st (place_from st k) (pos 0) (omega arith))
-  small (suc f) l = from_near (pos 0) six st (place_from st k) f (pos 0) (omega arith) (omega arith) ∙ all_zero f (omega arith)
-    where
-      all_zero : (f : ℕ) → f < 6 → get_or six f (pos 0) ≡ pos 0
-      all_zero zero l = refl
-      all_zero (suc zero) l = refl
-      all_zero (suc (suc zero)) l = refl
-      all_zero (suc (suc (suc zero))) l = refl
-      all_zero (suc (suc (suc (suc zero)))) l = refl
-      all_zero (suc (suc (suc (suc (suc zero))))) l = refl
-      all_zero (suc (suc (suc (suc (suc (suc f)))))) l = absurd (omega arith)
-
-  -- a number of a place: no head lies in it
-  under : (j f : ℕ) (z : ℤ) → get_or emptied (place_from st j + f) (pos 0) ≡ z → number_at zeroes j f ≡ z
-  under j f z e = still st zeroes zeroes_long j f z (get_or-set_other emptied h (place_from st j + f) (pos 0) (pos 0) (λ q. omega arith) ∙ e)
-
-  pub zeroed : Zeroed st zeroes k h
-  zeroed =
-      record {
-        long = zeroes_long;
-        place = λ f l. under k f (pos 0) (small f l);
-        head = get_or-set_same emptied h (pos 0) (pos 0) (omega (arith, emptied_long));
-        places = λ j f n l. under j f _ (from_far (pos 0 ∷ six) st (place_from st k) (place_from st j + f) (pos 0) (λ (g : place_from st k ≤ place_from st j + f). omega arith));
-        heads = λ g l n. get_or-set_other emptied h g (pos 0) (pos 0) n ∙ from_far (pos 0 ∷ six) st (place_from st k) g (pos 0) (λ (m : place_from st k ≤ g). omega arith);
       }

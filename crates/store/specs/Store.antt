@@ -1,12 +1,10 @@
 -- The store as a function from places to what they hold. It is a list of integers, eight to a place: a head and seven numbers; src/lib.rt says what each is.
 -- Reading is total (a negative number counts as 0, and what is too large for its field is cut), so nothing is asked of what a store held before.
-use Rattle.std.specs.Prelude.{◌≡◌, Bool, true, false, ◌&&◌, ◌⊎◌, List, ℕ, ◌+◌, ◌*◌, ◌/◌, ◌%◌, ◌<◌, ◌≤◌, ◌^◌, min, eqb, ℤ, pos, length, get_or}
+use Rattle.std.specs.Prelude.{◌≡◌, Bool, true, false, ◌&&◌, ◌⊎◌, List, ℕ, ◌+◌, ◌*◌, ◌/◌, ◌%◌, ◌<◌, ◌≤◌, ◌^◌, min, eqb, ℤ, pos, length, get_or, Option, Some, None}
 use Rattle.laws.specs.Integers.{nat_of}
 use Rattle.laws.specs.Index.{Chained, Walk}
 use Rattle.meaning.specs.declared.State.{State}
 use Rattle.store.specs.declared.Place.{Place}
-use Rattle.store.specs.declared.Found.{Found}
-use Rattle.store.specs.declared.Found.TheVariants.{At, Nothing}
 
 -- ---- reading
 
@@ -112,9 +110,9 @@ abbrev pub Unseen : List ℤ → ℕ → State → Type 0
 Unseen st count x = (k : ℕ) → k < count → is_same (place_at st k).state x ≡ false
 
 -- a place below count that holds an equal state, or none does
-abbrev pub Located : List ℤ → ℕ → State → Found → Type 0
-Located st count x (At k) = (k < count) × (is_same (place_at st k).state x ≡ true)
-Located st count x Nothing = Unseen st count x
+abbrev pub Located : List ℤ → ℕ → State → Option ℕ → Type 0
+Located st count x (Some k) = (k < count) × (is_same (place_at st k).state x ≡ true)
+Located st count x None = Unseen st count x
 
 -- ---- clearing
 

@@ -1,39 +1,23 @@
 // The index of the store: its states in chains, by bucket.
-ghost use Rattle.std.specs.Prelude.{◌≡◌, ◌+◌, ◌*◌, ◌/◌, ◌%◌, ◌<◌, ◌≤◌, min, length};
+ghost use Rattle.std.specs.Prelude.{◌≡◌, ◌+◌, ◌*◌, ◌/◌, ◌<◌, ◌≤◌, length};
 ghost use Rattle.store.specs.Store.{place_at, head_at, link_at, bucket_of, Relinked, Put, Storable, Indexed, Located};
 
-use crate::{Found, Place, numbers, places};
+use crate::{Place, numbers, places};
 use meaning::State;
 
-// The number's part of 2 ^ 32, mixed by an odd factor: each digit of the number counts in the high digits of the result.
-fn mixed(x: usize, factor: usize) -> usize
-    requires { (x < 4294967296) × (factor < 4294967296) }
-    ensures { (result ≡ x * factor % 4294967296) × (result < 4294967296) }
-{
-    x * factor % 4294967296
-}
-
-// As many buckets as there are slots, but no more than a product with a number below 2 ^ 32 has room for.
-fn buckets(slots: usize) -> usize
-    ensures { result ≡ min slots 2147483648 }
-{
-    if slots <= 2147483648 {
-        slots
-    } else {
-        2147483648
-    }
-}
-
-// The bucket of a state, of as many as there are slots: the part of 2 ^ 32 that the mixed number makes, with no division by a number
-// that is known only at run time.
+// The bucket of a state, of as many as there are slots, but of no more than a product with a number below 2 ^ 32 has room for. What tells the states apart is
+// multiplied by odd factors, so that each digit counts in the high digits of the result, and the part of 2 ^ 32 that this makes is taken of the buckets: there is
+// no division by a number that is known only at run time.
 fn bucket(slots: usize, x: State) -> usize
     requires { 0 < slots }
     ensures { (result ≡ bucket_of slots x) × (result < slots) }
 {
-    let words = mixed(places::words_of(x), 2654435769);
-    let covered = mixed(x.covered as usize, 2246822519);
-    let r = mixed(x.r as usize, 3266489917);
-    (words + covered + r) % 4294967296 * buckets(slots) / 4294967296
+    let words = places::words_of(x) as u32;
+    let mixed = words
+        .wrapping_mul(2654435769)
+        .wrapping_add(x.covered.wrapping_mul(2246822519))
+        .wrapping_add(u32::from(x.r).wrapping_mul(3266489917));
+    mixed as usize * slots.min(2147483648) / 4294967296
 }
 
 // The bucket of the state at the place k.
@@ -41,11 +25,11 @@ pub fn bucket_at(store: &[i64], k: usize) -> usize
     requires { 8 * k + 8 ≤ length store.now }
     ensures { (result ≡ bucket_of (length store.now / 8) (place_at store.now k).state) × (8 * result + 8 ≤ length store.now) }
 {
-    let x = places::place_at(store, k);
-    bucket(store.len() / 8, x.state)
+    bucket(store.len() / 8, places::place_at(store, k).state)
 }
 
 // The head of the bucket h.
+#[tactic(auto, unfolding(crate::specs::Store::head_at))]
 fn head_at(store: &[i64], h: usize) -> usize
     requires { 8 * h + 8 ≤ length store.now }
     ensures { result ≡ head_at store.now h }
@@ -54,6 +38,7 @@ fn head_at(store: &[i64], h: usize) -> usize
 }
 
 // The link of the state at the place k.
+#[tactic(auto, unfolding(crate::specs::Store::link_at))]
 fn link_at(store: &[i64], k: usize) -> usize
     requires { 8 * k + 8 ≤ length store.now }
     ensures { result ≡ link_at store.now k }
@@ -63,19 +48,19 @@ fn link_at(store: &[i64], k: usize) -> usize
 }
 
 // The place below count that holds a state equal to x, if there is one. It looks at the states of x's bucket only.
-pub fn find_equal(store: &[i64], count: usize, x: State) -> Found
+pub fn find_equal(store: &[i64], count: usize, x: State) -> Option<usize>
     requires { Indexed store.now count }
     ensures { Located store.now count x result }
 {
     let mut at = head_at(store, bucket(store.len() / 8, x));
-    while at > 0 {
-        let k = at - 1;
+    // No iterator: the chain goes from link to link, as they stand in the store.
+    while let Some(k) = at.checked_sub(1) {
         if places::is_same_at(store, k, x) {
-            return Found::At(k);
+            return Some(k);
         }
         at = link_at(store, k);
     }
-    Found::Nothing
+    None
 }
 
 // The place k is put in front of the bucket h.

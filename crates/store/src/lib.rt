@@ -20,10 +20,3 @@ pub struct Place {
     pub parent: usize,
     pub step: usize,
 }
-
-// Where an equal state is.
-#[derive(Clone, Copy)]
-pub enum Found {
-    At(usize),
-    Nothing,
-}

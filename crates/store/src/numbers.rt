@@ -6,7 +6,7 @@ ghost use Rattle.laws.specs.Integers.{nat_of};
 fn nat(x: i64) -> usize
     ensures { result ≡ nat_of x }
 {
-    if x < 0 { 0 } else { x as usize }
+    x.max(0) as usize
 }
 
 // The number as the store holds it.

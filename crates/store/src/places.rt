@@ -35,7 +35,7 @@ pub fn place_at(store: &[i64], k: usize) -> Place
 pub fn words_of(x: State) -> usize
     ensures { (result ≡ words_of x) × (result < 4294967296) }
 {
-    x.word1 as usize * 65536 + x.word2 as usize
+    usize::from(x.word1) * 65536 + usize::from(x.word2)
 }
 
 // The place k holds x from now on.
@@ -49,9 +49,8 @@ pub fn put_place(store: &mut [i64], k: usize, x: Place)
     let s = x.state;
     store[o] = numbers::int(words_of(s));
     store[o + 1] = numbers::int(s.covered as usize);
-    store[o + 2] = numbers::int(s.r as usize * 64 + x.size);
-    let score = s.score;
-    store[o + 4] = score;
+    store[o + 2] = numbers::int(usize::from(s.r) * 64 + x.size);
+    store[o + 4] = s.score;
     store[o + 5] = numbers::int(x.parent);
     store[o + 6] = numbers::int(x.step);
 }
@@ -61,13 +60,13 @@ pub fn is_same_at(store: &[i64], k: usize, x: State) -> bool
     requires { 8 * k + 8 ≤ length store.now }
     ensures { result ≡ is_same (place_at store.now k).state x }
 {
-    let y = place_at(store, k);
-    is_same(y.state, x)
+    is_same(place_at(store, k).state, x)
 }
 
 // All but the scores agree.
+#[tactic(auto, unfolding(crate::specs::Store::is_same))]
 pub fn is_same(y: State, x: State) -> bool
     ensures { result ≡ is_same y x }
 {
-    y.word1 == x.word1 && (y.word2 == x.word2 && (y.covered == x.covered && y.r == x.r))
+    y.word1 == x.word1 && y.word2 == x.word2 && y.covered == x.covered && y.r == x.r
 }

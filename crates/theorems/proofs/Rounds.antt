@@ -1,6 +1,8 @@
 -- Ticket 7, a round's directions together. The questions of the whole round (`round_book`, `round_26`, `round_12`, `round_passes`, `round_refused`) and its directions
 -- (`round_words`, `round_together`); each direction is answered as if it were decoded alone (`round_alone`, `round_found`), on places of its own (`round_behind`); the
 -- store is left as one decode leaves it (`round_store`, `round_kept`); and the order shows in nothing but the places (`round_order`, `round_order_found`, `round_order_store`).
+use Rattle.std.specs.declared.result.Result.{Result}
+use Rattle.meaning.specs.declared.Refusal.{Refusal}
 use Prim.Native.Nat.{ℕ, zero, suc, ◌+◌, ◌-◌, ◌*◌, ◌≤◌, ◌<◌}
 use native.Mathlib.Omega.{arith}
 use mathlib.Core.Path.{◌≡◌, refl, sym, ap, ◌∙◌, subst}
@@ -19,10 +21,9 @@ use Rattle.meaning.specs.Questions.{◌unless◌, within}
 use Rattle.meaning.specs.Book.{book_refusal, book_of}
 use Rattle.meaning.specs.Derivation.{target_words}
 use Rattle.meaning.specs.Search.{answer}
-use Rattle.meaning.specs.Reply.{done, Lent, cleared_if, before_search, decode_refusal, answer_steps, search_answer, decode, decoded_reply, decoded_steps, decoded_words, decoded_store, Decodes}
+use Rattle.meaning.specs.Reply.{done, Lent, cleared_if, before_search, decode_refusal, answer_steps, search_answer, decode, reply_of, decoded_steps, decoded_words, decoded_store, Decodes}
 use Rattle.meaning.specs.Round.{are_rising, are_ends, directions_from, directions_of, round_refusal, alone, answer_numbers, as_records, by_parts, store_after, kept_if_refused, RoundLists}
 use Rattle.meaning.specs.declared.Answer.{Answer}
-use Rattle.meaning.specs.declared.Decoded.{Decoded}
 use Rattle.meaning.specs.declared.Step.{Step}
 use Rattle.meaning.proofs.Chains.{rest_passes, test_passes, done_passes, written_done}
 use Rattle.meaning.proofs.Demands.{decode_counts}
@@ -277,9 +278,9 @@ module _ {loaded : List ℤ} {width : ℤ} (r : Round loaded width) (passes : re
 
   -- "Each answer, with its steps and words, equals that of its direction decoded alone with the same store and width, a refused direction included.": whatever a
   -- decode of direction k on these places answers and writes, with a store as long
-  pub round_alone : (k : ℕ) → k < count_of r → (steps' : List Step) (words' : List ℕ) (store'' store' : List ℤ) (result : Decoded) → length store'' ≡ length r.store₀
+  pub round_alone : (k : ℕ) → k < count_of r → (steps' : List Step) (words' : List ℕ) (store'' store' : List ℤ) (result : Result Answer Refusal) → length store'' ≡ length r.store₀
       → Decodes loaded (direction r k) width (part_of 32 k r.steps₀) steps' (part_of 256 k r.words₀) words' store'' store' result
-      → (part_of 32 k r.steps₁ ≡ steps') × (part_of 256 k r.words₁ ≡ words') × (part_of 9 k r.answers₁ ≡ answer_numbers (decoded_reply result))
+      → (part_of 32 k r.steps₁ ≡ steps') × (part_of 256 k r.words₁ ≡ words') × (part_of 9 k r.answers₁ ≡ answer_numbers (reply_of result))
   round_alone k l steps' words' store'' store' result e D =
       let a = round_at k l in let n = count_is r in
       let same : ◌≡◌ {A = Lent} (record { steps = length (part_of 32 k r.steps₀); words = length (part_of 256 k r.words₀); store = length store'' }) (alone store) =

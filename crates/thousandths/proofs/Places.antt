@@ -1,18 +1,16 @@
 -- Digits by their places: their number is the first ones' times a power of 10, and the others' beside it.
-use Prim.Native.Nat.{ℕ, zero, suc, ◌+◌, ◌*◌, ◌-◌, ◌≤◌, ◌<◌, ◌^◌}
+use Rattle.std.specs.List.{fold}
+use Prim.Native.Nat.{ℕ, zero, suc, min, ◌+◌, ◌*◌, ◌-◌, ◌≤◌, ◌<◌, ◌^◌}
 use mathlib.Core.Path.{◌≡◌, refl, ap}
 use mathlib.Core.Bool.{true}
-use mathlib.Core.Logic.{inl, inr}
 use mathlib.Core.List.{List, [], ◌∷◌, ◌++◌}
 use native.Mathlib.Omega.{arith}
 use native.Mathlib.Nat.{pow-succ', add-mul, mul_assoc, mul-le-mul_right}
-use borrow.Author.Tests.{leb-false}
-use lib.Dec.{leb}
 use lib.ListN.{length, get_or, get_or-eq_default}
 use Rattle.laws.specs.Lists.{all}
-use Rattle.laws.proofs.Tests.{both, between, by_test}
+use Rattle.laws.proofs.Tests.{both, between}
 use Rattle.meaning.specs.Numerals.{is_digit, digits_value}
-use Rattle.thousandths.specs.Digits.{digit_at, CountIs, with_digit}
+use Rattle.thousandths.specs.Digits.{digit_at, CountIs}
 
 pub digits_++ : (v : ℕ) (xs ys : List ℕ) → digits_value v (xs ++ ys) ≡ digits_value (digits_value v xs) ys
 digits_++ v [] ys = refl
@@ -51,20 +49,11 @@ digit_none f k h = rw (get_or-eq_default f 48 h)
 
 -- ════ counts
 
+-- a digit more behind those that count r
+abbrev pub with_digit : ℕ → ℕ → ℕ
+with_digit r b = min (min (r * 10) 18_446_744_073_709_551_615 + (b - 48)) 18_446_744_073_709_551_615
+
 -- one that no longer fits stays so, whatever digits follow
-pub count_more : (m r b : ℕ) → CountIs m r → CountIs (m * 10 + (b - 48)) (with_digit r b)
-unfolding with_digit
-count_more m r b (inl e) =
-    by_test (leb r 1844674407370955160)
-    (λ t. inl (rw (t, e)))
-    (λ f. inr (rw f, omega (arith, leb-false r 1844674407370955160 f)))
-count_more m r b (inr h) = inr (rw h.0, omega (arith, h.1))
-
--- within a score's range a count is exact
-pub count_same : {m r : ℕ} → CountIs m r → r ≤ 1000 → r ≡ m
-count_same (inl e) h = e
-count_same (inr p) h = absurd (omega (arith, p.0))
-
-pub count_beyond : {m r : ℕ} → CountIs m r → 1000 < r → 1000 < m
-count_beyond (inl e) h = omega arith
-count_beyond (inr p) h = omega (arith, p.1)
+pub count_all : (ds : List ℕ) (m r : ℕ) → CountIs m r → CountIs (digits_value m ds) (fold with_digit r ds)
+count_all [] m r e = e
+count_all (d ∷ ds) m r e = count_all ds (m * 10 + (d - 48)) (with_digit r d) (omega arith)

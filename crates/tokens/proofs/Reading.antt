@@ -91,23 +91,30 @@ module _ {text : List ℕ} {at : ℕ} {old places : List ℕ} {count next : ℕ}
         }
 
   -- a byte 10, or the text's end
-  pub reading_end : (next < length text → get_or text next 0 ≡ 10) → LineRead text at places (record { count = count; next = next })
-  reading_end h =
-      let all : filled_lines (drop at text) ≡ add_filled r.fields (filled_lines (drop next text)) = sym r.rest ∙ filled_end r.fields text next h in
-      let long = r.long in
-      record {
-        fields = r.fields;
-        long = r.long;
-        noted = r.noted;
-        within = r.within;
-        none = λ z.
-            all
-            ∙ add_none r.fields (filled_lines (drop next text)) (omega arith)
-            ∙ ap filled_lines (drop_of_length-le text (past z))
-            ∙ filled_start [];
-        later = λ s. omega (arith, r.later);
-        some = λ s. all ∙ add_some r.fields (filled_lines (drop next text)) (omega arith);
-      }
-    where
-      past : count ≡ 0 → length text ≤ next
-      past z = by_test (ltb next (length text)) (λ t. let l = ltb-true next (length text) t in clash (eq-eqb (get_or text next 0) 10 (h l)) (r.begun z l)) (λ f. ltb-false next (length text) f)
+  module _ (ends : next < length text → get_or text next 0 ≡ 10) where
+    all_read : filled_lines (drop at text) ≡ add_filled r.fields (filled_lines (drop next text))
+    all_read = sym r.rest ∙ filled_end r.fields text next ends
+
+    pub reading_none : count ≡ 0 → filled_lines (drop at text) ≡ []
+    reading_none z =
+        let long = r.long in
+        all_read
+        ∙ add_none r.fields (filled_lines (drop next text)) (omega arith)
+        ∙ ap filled_lines (drop_of_length-le text past)
+        ∙ filled_start []
+      where
+        past : length text ≤ next
+        past = by_test (ltb next (length text)) (λ t. let l = ltb-true next (length text) t in clash (eq-eqb (get_or text next 0) 10 (ends l)) (r.begun z l)) (λ f. ltb-false next (length text) f)
+
+    pub reading_line : 1 ≤ count → LineRead text at places (record { count = count; next = next })
+    reading_line s =
+        let long = r.long in
+        record {
+          fields = r.fields;
+          long = r.long;
+          noted = r.noted;
+          within = r.within;
+          filled = s;
+          later = omega (arith, r.later);
+          is = all_read ∙ add_some r.fields (filled_lines (drop next text)) (omega arith);
+        }

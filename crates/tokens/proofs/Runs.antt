@@ -1,16 +1,22 @@
 -- A run of bytes that pass a test: one byte further, its end, and what stands behind it.
 use Prim.Native.Nat.{ℕ, ◌+◌, ◌≤◌, ◌<◌}
-use mathlib.Core.Path.{◌≡◌, sym, ap, ◌∙◌}
-use mathlib.Core.Bool.{Bool, true, false}
+use mathlib.Core.Path.{◌≡◌, refl, sym, ap, ◌∙◌}
+use mathlib.Core.Bool.{Bool, true, false, cond}
 use mathlib.Core.List.{List, [], ◌∷◌}
 use native.Mathlib.Omega.{arith}
-use lib.ListN.{length, drop, get_or, length-drop, drop_of_length-le}
+use lib.ListN.{length, drop, get_or, length-drop}
 use lib.Seq.{get_or-drop}
+use Rattle.std.specs.List.{prefix_len}
+use Rattle.std.proofs.lemmas.List.Recursion.{same_from_clauses}
 use Rattle.laws.proofs.Tests.{by_test}
 use Rattle.laws.proofs.Lists.{drop_next}
 use Rattle.tokens.specs.Scan.{run_length}
 
 module _ (test : ℕ → Bool) where
+  -- std's word for it
+  pub run_prefix : (t : List ℕ) → prefix_len test t ≡ run_length test t
+  run_prefix t = same_from_clauses (prefix_len test) (run_length test) (λ b n. cond (test b) (1 + n) 0) refl (λ b t. refl) (λ b t. ap (λ (n : ℕ). cond (test b) n 0) (omega arith)) t
+
   pub run_within : (t : List ℕ) → run_length test t ≤ length t
   run_within [] = omega arith
   run_within (b ∷ t) = let ih = run_within t in by_test (test b) (λ e. rw e (omega arith)) (λ e. rw e (omega arith))
@@ -24,12 +30,6 @@ module _ (test : ℕ → Bool) where
   module _ (t : List ℕ) (i : ℕ) where
     pub run_on : i < length t → test (get_or t i 0) ≡ true → i + 1 + run_length test (drop (i + 1) t) ≡ i + run_length test (drop i t)
     run_on h e = rw (drop_next t i 0 h, e) (omega arith)
-
-    pub run_stop : i < length t → test (get_or t i 0) ≡ false → i + run_length test (drop i t) ≡ i
-    run_stop h e = rw (drop_next t i 0 h, e) (omega arith)
-
-    pub run_end : length t ≤ i → i + run_length test (drop i t) ≡ i
-    run_end h = rw (drop_of_length-le t h) (omega arith)
 
     pub run_inside : i ≤ length t → i + run_length test (drop i t) ≤ length t
     run_inside h = omega (arith, run_within (drop i t), length-drop i t)

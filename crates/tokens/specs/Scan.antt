@@ -1,5 +1,5 @@
 -- A text read a line at a time: the fields of the next line that is not blank ("blank lines .. are passed over"), by the places where they stand.
-use Rattle.std.specs.Prelude.{ℕ, suc, ◌+◌, ◌*◌, ◌-◌, ◌≤◌, ◌<◌, ◌≡◌, Bool, not, cond, ◌||◌, List, [], ◌∷◌, eqb, ltb, length, take, drop, get_or, set}
+use Rattle.std.specs.Prelude.{ℕ, suc, ◌+◌, ◌*◌, ◌-◌, ◌≤◌, ◌<◌, ◌≡◌, Bool, not, cond, ◌||◌, List, [], ◌∷◌, eqb, ltb, length, take, drop, get_or, set, Option, MatchOption}
 use Rattle.meaning.specs.Numerals.{newline}
 use Rattle.arpa.specs.Lines.{is_blank, filled_lines}
 use Rattle.tokens.specs.declared.scan.Line.{Line}
@@ -36,12 +36,16 @@ pub record Noted (text places : List ℕ) (fields : List (List ℕ)) : Type 0 wh
   pub part : (k : ℕ) → k < 5 → k < length fields → FieldNoted text places k
   pub is : (k : ℕ) → k < 5 → k < length fields → field_at text places k ≡ get_or fields k []
 
--- the next line from `at` on that is not blank was read, where there is one: it has these fields, and the further lines stand from `next` on
+-- the next line from `at` on that is not blank was read: it has these fields, and the further lines stand from `next` on
 pub record LineRead (text : List ℕ) (at : ℕ) (places : List ℕ) (line : Line) : Type 0 where
   pub fields : List (List ℕ)
   pub long : length fields ≡ line.count
   pub noted : Noted text places fields
   pub within : line.next ≤ length text
-  pub none : line.count ≡ 0 → filled_lines (drop at text) ≡ []
-  pub later : 1 ≤ line.count → at < line.next
-  pub some : 1 ≤ line.count → filled_lines (drop at text) ≡ fields ∷ filled_lines (drop line.next text)
+  pub filled : 1 ≤ line.count
+  pub later : at < line.next
+  pub is : filled_lines (drop at text) ≡ fields ∷ filled_lines (drop line.next text)
+
+-- where there is one
+abbrev pub NextRead : List ℕ → ℕ → List ℕ → Option Line → Type 0
+NextRead text at places next = MatchOption next (filled_lines (drop at text) ≡ []) (LineRead text at places)

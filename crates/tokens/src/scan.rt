@@ -1,10 +1,10 @@
 // A text read a line at a time: "Byte 10 or the text's end ends a line; fields are parted by spaces or tabs; blank lines .. are
 // passed over."
-ghost use Rattle.std.specs.Prelude.{◌≡◌, ◌+◌, ◌≤◌, length, drop};
+ghost use Rattle.std.specs.Prelude.{◌≡◌, ℕ, Bool, ◌+◌, ◌≤◌, length, drop};
 ghost use Rattle.arpa.specs.Lines.{is_blank};
-ghost use Rattle.tokens.specs.Scan.{run_length, is_space, is_part, note_at, field_at, FieldNoted, LineRead};
+ghost use Rattle.tokens.specs.Scan.{run_length, is_space, note_at, field_at, FieldNoted, NextRead};
 
-// A line that was read: how many fields it has, and a place behind them. A count of 0: there is no further line that is not blank.
+// A line that was read: how many fields it has, and a place behind them.
 #[derive(Clone, Copy)]
 pub struct Line {
     pub count: usize,
@@ -15,59 +15,23 @@ pub struct Line {
 fn is_blank(b: u8) -> bool
     ensures { result ≡ is_blank b }
 {
-    b == 32 || b == 9
+    matches!(b, b' ' | b'\t')
 }
 
 // A byte that belongs to no field: a blank, or the byte 10.
 fn is_space(b: u8) -> bool
     ensures { result ≡ is_space b }
 {
-    is_blank(b) || b == 10
+    is_blank(b) || b == b'\n'
 }
 
-// The place behind the blanks that stand at `at`.
-fn skip_blanks(text: &[u8], at: usize) -> usize
-    requires { at ≤ length text.now }
-    ensures { result ≡ at + run_length is_blank (drop at text.now) }
+// The place behind the bytes from `at` on that pass the test.
+pub fn run_end<F: Fn(u8) -> bool>(text: &[u8], at: usize, passes: F) -> usize
+    requires callable { F.IsAlwaysCallable passes }
+    requires at_in_bounds { at ≤ length text.now }
+    ensures { (test : ℕ → Bool) → ((b : ℕ) (r : Bool) → F.post passes b r → r ≡ test b) → result ≡ at + run_length test (drop at text.now) }
 {
-    let mut i = at;
-    while i < text.len() {
-        if !is_blank(text[i]) {
-            return i;
-        }
-        i += 1;
-    }
-    i
-}
-
-// The place behind the blanks and the blank lines that stand at `at`.
-fn skip_space(text: &[u8], at: usize) -> usize
-    requires { at ≤ length text.now }
-    ensures { result ≡ at + run_length is_space (drop at text.now) }
-{
-    let mut i = at;
-    while i < text.len() {
-        if !is_space(text[i]) {
-            return i;
-        }
-        i += 1;
-    }
-    i
-}
-
-// The place behind the field that begins at `at`.
-fn field_end(text: &[u8], at: usize) -> usize
-    requires { at ≤ length text.now }
-    ensures { result ≡ at + run_length is_part (drop at text.now) }
-{
-    let mut i = at;
-    while i < text.len() {
-        if is_space(text[i]) {
-            return i;
-        }
-        i += 1;
-    }
-    i
+    at + text[at..].iter().take_while(|b| passes(**b)).count()
 }
 
 // Notes where field k begins and ends, if it is one of the first five.
@@ -81,26 +45,27 @@ fn note(places: &mut [usize], k: usize, from: usize, to: usize)
     }
 }
 
-// Reads the next line from `at` on that is not blank, and notes where its first five fields begin and end: field k at
-// places[2 * k] and places[2 * k + 1]. What stands before `at` does not matter.
-pub fn read_line(text: &[u8], at: usize, places: &mut [usize]) -> Line
+// Reads the next line from `at` on that is not blank, where there is one, and notes where its first five fields begin and end: field k
+// at places[2 * k] and places[2 * k + 1]. What stands before `at` does not matter.
+pub fn read_line(text: &[u8], at: usize, places: &mut [usize]) -> Option<Line>
     requires at_in_bounds { at ≤ length text.now }
     requires in_bounds { 10 ≤ length places.old }
-    ensures line_read { LineRead text.now at places.new result }
+    ensures line_read { NextRead text.now at places.new result }
     ensures places_len_unchanged { length places.new ≡ length places.old }
 {
-    let mut count: usize = 0;
-    let mut next = skip_space(text, at);
-    while next < text.len() {
-        if text[next] == 10 {
-            return Line { count, next };
-        }
-        let end = field_end(text, next);
+    let mut count = 0;
+    let mut next = run_end(text, at, is_space);
+    // No range: fields differ in length, and the next begins behind the blanks that follow.
+    while next < text.len() && text[next] != b'\n' {
+        let end = run_end(text, next, |b| !is_space(b));
         note(places, count, next, end);
         count += 1;
-        next = skip_blanks(text, end);
+        next = run_end(text, end, is_blank);
     }
-    Line { count, next }
+    if count == 0 {
+        return None;
+    }
+    Some(Line { count, next })
 }
 
 // Field k of the line whose places were noted, as that part of the text itself.

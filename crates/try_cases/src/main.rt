@@ -22,64 +22,54 @@
 // (`case_fill`). To add cases, add lines to `stdin`, and write `stdout` by the second decoder's program `cases`.
 #![tactic(auto)]
 
-use case_line::{input, line};
+use case_line::input;
+use case_line::line::Line;
 use case_reply::say;
 use std::io;
 
 // The call of that number.
-fn call(rt: &impl Print, text: &[u8], at: usize, number: u64) -> io::Result<()> {
+fn call(rt: &impl Print, line: &mut Line, number: u64) -> io::Result<()> {
     match number {
-        1 => case_reading::read_book(rt, text, at),
-        2 => case_reading::read_direction(rt, text, at),
-        3 => case_reading::check_book(rt, text, at),
-        4 => case_reading::target_words(rt, text, at),
-        5 => case_decoding::score(rt, text, at),
-        6 => case_decoding::decode(rt, text, at),
-        7 => case_reading::check_direction(rt, text, at),
-        8 => case_decoding::render(rt, text, at),
-        9 => case_revising::add_entry(rt, text, at),
-        10 => case_revising::remove_entry(rt, text, at),
-        11 => case_importing::import_arpa(rt, text, at),
-        12 => case_rounds::decode_round(rt, text, at, false),
-        13 => case_rounds::decode_round(rt, text, at, true),
-        14 => case_sheets::round_sheet(rt, text, at, false),
-        15 => case_sheets::round_sheet(rt, text, at, true),
-        16 => case_sheets::print_round(rt, text, at),
-        _ => say::word(rt, b"no such call"),
+        1 => case_reading::read_book(rt, line),
+        2 => case_reading::read_direction(rt, line),
+        3 => case_reading::check_book(rt, line),
+        4 => case_reading::target_words(rt, line),
+        5 => case_decoding::score(rt, line),
+        6 => case_decoding::decode(rt, line),
+        7 => case_reading::check_direction(rt, line),
+        8 => case_decoding::render(rt, line),
+        9 => case_revising::add_entry(rt, line),
+        10 => case_revising::remove_entry(rt, line),
+        11 => case_importing::import_arpa(rt, line),
+        12 => case_rounds::with_numbers(rt, line),
+        13 => case_rounds::with_records(rt, line),
+        14 => case_sheets::with_numbers(rt, line),
+        15 => case_sheets::with_records(rt, line),
+        16 => case_sheets::print_round(rt, line),
+        _ => print!(rt; "no such call"),
     }
 }
 
 // One line: the label, the bar, the call's number, and what the call is asked.
 fn case(rt: &impl Print, text: &[u8]) -> io::Result<()> {
-    let bar = line::find(text, 0, b'|');
-    if bar < text.len() {
-        say::begin(rt, &text[..bar])?;
-        let number = line::take_number(text, bar + 1);
-        call(rt, text, number.end, number.size)?;
-        say::word(rt, b"\n")?;
-    }
-    Ok(())
+    let Some(bar) = text.iter().position(|b| *b == b'|') else {
+        return Ok(());
+    };
+    say::begin(rt, &text[..bar])?;
+    let mut line = Line::new(&text[bar + 1..]);
+    let number = line.number();
+    call(rt, &mut line, number.size)?;
+    print!(rt; "\n")
 }
 
-// The next line; false where there is none. A last one that is cut off is not run.
-fn turn(rt: &(impl Input + Print)) -> io::Result<bool> {
-    let mut text = [0u8; 200000];
-    let line = input::take_line(rt, &mut text);
-    let n = line.count;
-    if line.whole {
-        case(rt, &text[..n])?;
-    }
-    Ok(line.whole)
-}
-
-// The lines in turn. Nothing says that an input ends, so they are counted.
+// The lines in turn. Nothing says that an input ends, so they are counted. A last one that is cut off is not run.
 fn main(rt: HostRuntime) -> io::Result<()> {
-    let mut lines: usize = 0;
-    while lines < 1000000 {
-        if !turn(&rt)? {
+    let mut text = [0u8; 200000];
+    for _ in 0..1000000 {
+        let Some(line) = input::take_line(&rt, &mut text) else {
             return Ok(());
-        }
-        lines += 1;
+        };
+        case(&rt, line)?;
     }
     Ok(())
 }

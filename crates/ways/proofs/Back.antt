@@ -1,5 +1,5 @@
 -- The walk back along the parents, one turn at a time.
-use mathlib.Core.Path.{◌≡◌, refl, sym, ◌∙◌, ap, subst}
+use mathlib.Core.Path.{◌≡◌, sym, ◌∙◌, ap, subst}
 use mathlib.Core.List.{List, [], ◌∷◌, ◌++◌}
 use Prim.Native.Nat.{ℕ, ◌+◌, ◌-◌, ◌<◌, ◌≤◌}
 use native.Mathlib.Decide.{ℕ_discrete}
@@ -14,7 +14,7 @@ use Rattle.meaning.specs.State.{Hyp}
 use Rattle.meaning.specs.declared.Step.{Step}
 use Rattle.store.specs.Store.{place_at}
 use Rattle.meaning.specs.Derivation.{no_step}
-use Rattle.ways.specs.Back.{nobody, Linked, Chains, Way, Behind}
+use Rattle.ways.specs.Back.{nobody, Linked, Chains, Behind}
 use Rattle.ways.specs.Codes.{step_of, codes}
 use Rattle.store.specs.declared.Place.{Place}
 
@@ -30,15 +30,7 @@ module _ {st : List ℤ} {l : List Hyp} (C : Chains st l) where
   pub one_less : {at : ℕ} → (v : Linked st l at) → length (get_or l at nobody).steps ≡ length (get_or l (place_at st at).parent nobody).steps + 1
   one_less {at} v = ap length v.steps_are ∙ length-append (get_or l (place_at st at).parent nobody).steps (step_of (place_at st at).step ∷ [])
 
-  -- ---- one step back, for `depth`
-  pub deeper : (k at d : ℕ) (x : Place) → 0 < at → at < length l → x ≡ place_at st at → length (get_or l at nobody).steps + d ≡ length (get_or l k nobody).steps
-      → (x.parent < length l) × (length (get_or l x.parent nobody).steps + (d + 1) ≡ length (get_or l k nobody).steps)
-  deeper k at d x p h e q =
-      let v = C.links at p h in
-      subst (λ (y : Place). (y.parent < length l) × (length (get_or l y.parent nobody).steps + (d + 1) ≡ length (get_or l k nobody).steps)) (sym e)
-      (v.inside, omega (arith, one_less v))
-
-  -- ---- and for `path`
+  -- ---- one step back, for `path`
   pub back_goes : (k d : ℕ) (out : List ℕ) (at left : ℕ) (x : Place) → 0 < left → left ≤ d → d ≤ length out → x ≡ place_at st at
       → Behind l k d out at left → Behind l k d (set out (left - 1) x.step) x.parent (left - 1)
   back_goes k d out at left x p q r e B =
@@ -71,10 +63,3 @@ module _ {st : List ℤ} {l : List Hyp} (C : Chains st l) where
           ∙ ap (λ (j : ℕ). get_or ((get_or l (place_at st at).parent nobody).steps ++ (step_of (place_at st at).step ∷ [])) j no_step) less
           ∙ sym (B.front (left - 1) (omega arith) ∙ ap (λ (ss : List Step). get_or ss (left - 1) no_step) v.steps_are))
       step v less i h g (no z) = ap step_of (get_or-set_other out (left - 1) i (place_at st at).step 0 z) ∙ B.step_is i (omega arith) g
-
-pub back_starts : {l : List Hyp} {k d : ℕ} {out : List ℕ} → k < length l → d ≡ length (get_or l k nobody).steps → Behind l k d out k d
-back_starts h e = record { inside = h; long = sym e; front = λ i g. refl; step_in = λ i a b. absurd (omega arith); step_is = λ i a b. absurd (omega arith) }
-
-pub back_ends : {l : List Hyp} {k d : ℕ} {out : List ℕ} {at left : ℕ} → left ≤ 0 → d ≡ length (get_or l k nobody).steps
-    → Behind l k d out at left → Way (get_or l k nobody).steps out d
-back_ends z e B = record { long = e; step_in = λ i h. B.step_in i (omega arith) h; step_is = λ i h. B.step_is i (omega arith) h }

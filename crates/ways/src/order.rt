@@ -19,6 +19,7 @@ pub fn comes_first(store: &[i64], j: usize, o: usize, k: usize) -> bool
     let mut s = o;
     let mut b = z.parent;
     let mut t = z.step;
+    // No range: two chains of parents are followed back to where they meet.
     while a != b {
         let x = places::place_at(store, a);
         let y = places::place_at(store, b);

@@ -11,10 +11,10 @@ fn depth(store: &[i64], k: usize) -> usize
     ensures { (l : List Hyp) → Chains store.now l → k < length l → result ≡ length (get_or l k nobody).steps }
 {
     let mut at = k;
-    let mut d: usize = 0;
+    let mut d = 0;
+    // No range: parents are followed back to the first place.
     while at > 0 {
-        let x = places::place_at(store, at);
-        at = x.parent;
+        at = places::place_at(store, at).parent;
         d += 1;
     }
     d
@@ -28,9 +28,7 @@ pub fn path(store: &[i64], k: usize, out: &mut [usize]) -> usize
 {
     let d = depth(store, k);
     let mut at = k;
-    let mut left = d;
-    while left > 0 {
-        left -= 1;
+    for left in (0..d).rev() {
         let x = places::place_at(store, at);
         out[left] = x.step;
         at = x.parent;

@@ -5,6 +5,7 @@ ghost use Rattle.ways.specs.Codes.{code_of, step_of, codes};
 use meaning::Step;
 
 // The number of a step.
+#[tactic(auto, unfolding(crate::specs::Codes::code_of))]
 pub fn code(first: usize, last: usize, entry: usize) -> usize
     requires { (first < 65536) × (last < 64) × (entry < 65536) }
     ensures { result ≡ code_of (record { first = first; last = last; entry = entry }) }
@@ -13,6 +14,7 @@ pub fn code(first: usize, last: usize, entry: usize) -> usize
 }
 
 // The step of a number.
+#[tactic(auto, unfolding(crate::specs::Codes::step_of))]
 pub fn step(number: usize) -> Step
     requires { number < codes }
     ensures { result ≡ step_of number }

@@ -28,8 +28,8 @@ returns-then-not-all_words c =
     let d = c.args.direction.now in
     sym (reply_refused (direction_refusal d) 9 tt (no_words (map pos d) (counted (goal.at.returns-then-not-all_words c).Else-not-is_count) (sym c.all_words.ensures ∙ c.if-not-all_words.true)))
 
-pub returns : goal.returns
+pub returns-else-not-all_words : goal.returns-else-not-all_words
 unfolding direction_refusal
-returns c =
+returns-else-not-all_words c =
     let d = c.args.direction.now in
-    sym (reply_done (direction_refusal d) tt (in_range (map pos d) (counted (goal.at.returns c).Else-not-is_count) (sym c.all_words.ensures ∙ c.if-not-all_words.false)))
+    sym (reply_done (direction_refusal d) tt (in_range (map pos d) (counted (goal.at.returns-else-not-all_words c).Else-not-is_count) (sym c.all_words.ensures ∙ c.if-not-all_words.false)))

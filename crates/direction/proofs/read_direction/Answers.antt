@@ -18,7 +18,7 @@ use Rattle.meaning.specs.Reply.{written_over, filled_with}
 use Rattle.meaning.proofs.Filled.{filled_take}
 use Rattle.direction.proofs.Answers.{no_count, no_words, in_range, no_text, no_numbers, no_room, has_room, refused_so, done_so}
 use Rattle.direction.proofs.read_direction.Goals as goal
-use Rattle.direction.proofs.read_direction.Goals.{Else-not-are_words, Else-not-is_count, Else-not-is_direction_text}
+use Rattle.direction.proofs.read_direction.Goals.{Else-not-all_words, Else-not-is_count, Else-not-is_direction_text}
 
 -- question 8 passed
 is_text : (c : Else-not-is_direction_text) → is_direction_text c.args.text.now ≡ true
@@ -39,8 +39,8 @@ row_is c =
     ∙ filled_take (direction_numbers t) (replicate 32 (pos 0)) k.result k.ensures.value (few c)
 
 -- question 10 passed
-words : (c : Else-not-are_words) → take c.read_direction_row-n.result c.read_direction_row-n.new.row ≡ direction_numbers c.args.text.now → all is_direction_word (direction_numbers c.args.text.now) ≡ true
-words c r = ap (all is_direction_word) (sym r) ∙ sym c.are_words.ensures ∙ c.if-not-are_words.false
+words : (c : Else-not-all_words) → take c.read_direction_row-n.result c.read_direction_row-n.new.row ≡ direction_numbers c.args.text.now → all is_direction_word (direction_numbers c.args.text.now) ≡ true
+words c r = ap (all is_direction_word) (sym r) ∙ sym c.all_words.ensures ∙ c.if-not-all_words.false
 
 pub returns-then-not-is_direction_text : goal.returns-then-not-is_direction_text
 returns-then-not-is_direction_text c =
@@ -58,12 +58,12 @@ returns-then-not-is_count c =
     (no_numbers a.text.now (length a.direction.now) t 8 (no_count (direction_numbers a.text.now) e)) in
     record { result_value = r.0; direction_after = r.1 }
 
-pub returns-then-not-are_words : goal.returns-then-not-are_words
-returns-then-not-are_words c =
+pub returns-then-not-all_words : goal.returns-then-not-all_words
+returns-then-not-all_words c =
     let a = c.args in
-    let t = is_text (goal.at.returns-then-not-are_words c).Else-not-is_direction_text in
-    let n = counted (goal.at.returns-then-not-are_words c).Else-not-is_count in
-    let e = ap (all is_direction_word) (sym (row_is (goal.at.returns-then-not-are_words c).Else-not-is_count)) ∙ sym c.are_words.ensures ∙ c.if-not-are_words.true in
+    let t = is_text (goal.at.returns-then-not-all_words c).Else-not-is_direction_text in
+    let n = counted (goal.at.returns-then-not-all_words c).Else-not-is_count in
+    let e = ap (all is_direction_word) (sym (row_is (goal.at.returns-then-not-all_words c).Else-not-is_count)) ∙ sym c.all_words.ensures ∙ c.if-not-all_words.true in
     let r = refused_so a.text.now a.direction.now 9
     (no_numbers a.text.now (length a.direction.now) t 9 (no_words (direction_numbers a.text.now) n e)) in
     record { result_value = r.0; direction_after = r.1 }
@@ -73,7 +73,7 @@ returns-then-direction-n c =
     let a = c.args in
     let g = goal.at.returns-then-direction-n c in
     let n : length (direction_numbers a.text.now) ≡ c.read_direction_row-n.result = sym c.read_direction_row-n.ensures.value in
-    let w = in_range (direction_numbers a.text.now) (counted g.Else-not-is_count) (words g.Else-not-are_words (row_is g.Else-not-is_count)) in
+    let w = in_range (direction_numbers a.text.now) (counted g.Else-not-is_count) (words g.Else-not-all_words (row_is g.Else-not-is_count)) in
     let r = refused_so a.text.now a.direction.now 6
     (no_room a.text.now (length a.direction.now) (is_text g.Else-not-is_direction_text) w (lt-leb (length (direction_numbers a.text.now)) (length a.direction.now) (omega (arith, c.if-direction-n.true)))) in
     record { result_value = r.0; direction_after = r.1 }
@@ -85,7 +85,7 @@ returns c =
     let k = c.read_direction_row-n in
     let n : length (direction_numbers a.text.now) ≡ k.result = sym k.ensures.value in
     let o : leb (length (direction_numbers a.text.now)) (length a.direction.now) ≡ true = le-leb (length (direction_numbers a.text.now)) (length a.direction.now) (omega (arith, c.if-direction-n.false)) in
-    let w = in_range (direction_numbers a.text.now) (counted g.Else-not-is_count) (words g.Else-not-are_words (row_is g.Else-not-is_count)) in
+    let w = in_range (direction_numbers a.text.now) (counted g.Else-not-is_count) (words g.Else-not-all_words (row_is g.Else-not-is_count)) in
     let r = done_so a.text.now a.direction.now k.result k.ensures.value (has_room a.text.now (length a.direction.now) (is_text g.Else-not-is_direction_text) w o) in
     record {
       result_value = r.0;

@@ -1,27 +1,28 @@
--- The invariant: from the value so far at its end the text goes on as from v at `at`. A digit more is read of at most 999,999, so that the sum has seven digits at most.
-use Prim.Native.Nat.{◌≤◌}
-use mathlib.Core.Path.{◌≡◌, sym, ◌∙◌}
+-- A digit more (Fields), which is read of at most 999,999.
+use Prim.Native.Nat.{◌-◌, ◌<◌}
+use mathlib.Core.Path.{◌≡◌}
 use mathlib.Core.Bool.{true, ◌&&◌}
 use native.Mathlib.Omega.{arith}
-use lib.ListN.{get_or}
+use lib.ListN.{get_or, length}
+use Rattle.std.proofs.lemmas.Grind.{common_steps}
 use Rattle.laws.proofs.Tests.{both, between}
 use Rattle.meaning.specs.Numerals.{is_digit}
 use Rattle.fields.specs.Scan.{more_digits}
 use Rattle.fields.proofs.Fields.{on_more, on_digit}
 use Rattle.fields.proofs.read_digits.Goals as goal
-use Rattle.fields.proofs.read_digits.Goals.{Else-not-goes_on}
 
--- a digit follows
-more : (c : Else-not-goes_on) → is_digit (get_or c.args.text.now c.loop-end.end 0) && more_digits c.loop-end.value ≡ true
-more c = sym c.goes_on.ensures ∙ c.if-not-goes_on.false
-
-bounds : (c : Else-not-goes_on) → ((48 ≤ get_or c.args.text.now c.loop-end.end 0) × (get_or c.args.text.now c.loop-end.end 0 ≤ 57)) × (c.loop-end.value ≤ 999999)
-bounds c =
-    let b = get_or c.args.text.now c.loop-end.end 0 in
-    let d = both (is_digit b) (more_digits c.loop-end.value) (more c) in
-    (between 48 57 b d.0, (between 1 999999 c.loop-end.value d.1).1)
-
-pub loop-end-preserved : goal.loop-end-preserved
-loop-end-preserved c =
+pub loop-b-preserved : goal.loop-b-preserved
+loop-b-preserved c =
     let t = c.args.text.now in
-    ((λ book minus. on_more (c.loop-end.invariant.0 book minus) (on_digit book t c.loop-end.end c.loop-end-test.true minus c.loop-end.value (more (goal.at.loop-end-preserved c).Else-not-goes_on))), omega (arith, bounds (goal.at.loop-end-preserved c).Else-not-goes_on))
+    let l = c.loop-b in
+    let h : l.end < length t = grind (arith, common_steps) in
+    let s : get_or t l.end 0 - 48 ≡ c.from.result = grind (arith, common_steps) in
+    let e : is_digit (get_or t l.end 0) && more_digits l.value ≡ true = grind (arith, common_steps) in
+    let d = both (is_digit (get_or t l.end 0)) (more_digits l.value) e in
+    let more = between 1 999999 l.value d.1 in
+    let digit = between 48 57 (get_or t l.end 0) d.0 in
+    record {
+      on = λ book minus. on_more (l.invariant.on book minus) (rw s at (on_digit book t l.end h minus l.value e));
+      small = omega arith;
+      place = omega arith;
+    }

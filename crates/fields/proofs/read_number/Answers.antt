@@ -1,20 +1,18 @@
 -- A minus or a digit begins the number (Fields); else no number does.
-use mathlib.Core.Path.{sym, ◌∙◌}
 use native.Mathlib.Omega.{arith}
-use borrow.Author.Tests.{ne_eqb}
+use lib.ListN.{get_or}
 use Rattle.fields.specs.Scan.{Field}
-use Rattle.fields.proofs.Fields.{field_bad, field_on, bad_byte, on_minus, on_first}
+use Rattle.fields.proofs.Fields.{field_on, bad_byte, on_minus, on_first, digit, no_number}
 use Rattle.fields.proofs.read_number.Goals as goal
 
-pub returns-then-b-eq45 : goal.returns-then-b-eq45
-returns-then-b-eq45 c = λ book. field_on (on_minus book c.args.text.now c.args.at c.requires c.if-b-eq45.true) (omega arith) (c.read_negative.ensures book)
+pub returns-in-45 : goal.returns-in-45
+returns-in-45 c = λ book. field_on c.read_negative.result (on_minus book c.args.text.now c.args.at c.requires c.in-45.is) (omega arith) (c.read_negative.ensures book)
 
-pub returns-then-not-is_digit : goal.returns-then-not-is_digit
-returns-then-not-is_digit c = λ book. field_bad c.no_field.result c.no_field.ensures
-    (bad_byte book c.args.text.now c.args.at Field c.requires
-    (rw (ne_eqb _ _ c.if-b-eq45.false, sym c.is_digit.ensures ∙ c.if-not-is_digit.true)))
+pub returns-in-48-to-57 : goal.returns-in-48-to-57
+returns-in-48-to-57 c = λ book. field_on c.rest_of_number.result (on_first book c.args.text.now c.args.at c.requires (digit (get_or c.args.text.now c.args.at 0) (omega arith) (omega arith))) (omega arith) (c.rest_of_number.ensures book)
 
-pub returns : goal.returns
-returns c = λ book. field_on
-    (on_first book c.args.text.now c.args.at c.requires (sym c.is_digit.ensures ∙ c.if-not-is_digit.false))
-    (omega arith) (c.rest_of_number.ensures book)
+pub returns-in_default : goal.returns-in_default
+returns-in_default c = λ book. bad_byte book c.args.text.now c.args.at Field c.requires (no_number book (get_or c.args.text.now c.args.at 0) (λ q. omega arith) (λ a b. omega arith))
+
+pub returns-in_default-2 : goal.returns-in_default-2
+returns-in_default-2 c = λ book. bad_byte book c.args.text.now c.args.at Field c.requires (no_number book (get_or c.args.text.now c.args.at 0) (λ q. omega arith) (λ a b. omega arith))

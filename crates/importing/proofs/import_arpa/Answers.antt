@@ -10,8 +10,8 @@ returns-then-book-used c =
     let r = import_refused a.text.now a.list.now a.book.now a.used ListTooShort (too_many a.text.now a.list.now a.book.now a.used c.if-book-used.true) in
     record { result_value = r.0; book_after = r.1 }
 
-pub returns-in-Broken : goal.returns-in-Broken
-returns-in-Broken c =
+pub returns-in-None : goal.returns-in-None
+returns-in-None c =
     let a = c.args in
-    let r = import_refused a.text.now a.list.now a.book.now a.used ArpaText (no_arpa a.text.now a.list.now a.book.now a.used (omega arith) c.in-Broken.ensures) in
+    let r = import_refused a.text.now a.list.now a.book.now a.used ArpaText (no_arpa a.text.now a.list.now a.book.now a.used (omega arith) c.in-None.ensures) in
     record { result_value = r.0; book_after = r.1 }

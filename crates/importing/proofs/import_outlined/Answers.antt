@@ -3,4 +3,4 @@ use Rattle.longer.proofs.Judging.{opened}
 use Rattle.importing.proofs.import_outlined.Goals as goal
 
 pub import_model-requires-clause-opened : goal.import_model-requires-clause-opened
-import_model-requires-clause-opened c = opened c.index_words-words.result c.requires.outlines
+import_model-requires-clause-opened c = opened c.requires.outlines

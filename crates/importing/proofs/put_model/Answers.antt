@@ -11,8 +11,7 @@ use Rattle.importing.proofs.put_model.Goals as goal
 pub returns : goal.returns
 unfolding with_model
 returns c =
-    let p : to_z w32 (of_z w32 c.first_of-unseen.result) ≡ c.first_of-unseen.result = search rules in
-    let q : to_z w32 (of_z w32 c.args.longer.unseen) ≡ c.args.longer.unseen = search rules in
+    let p : to_z w32 (of_z w32 c.unwrap_or-unseen.result) ≡ c.unwrap_or-unseen.result = search rules in
     let k = c.number_at in
     let r : to_z w32 (of_z w32 k.result) ≡ k.result = search rules in
-    rw (p, c.first_of-unseen.ensures, q, r, k.ensures, to_z_pos w32 c.args.longer.triples (omega (arith, c.requires.triples_le_grams_most))) refl
+    rw (p, c.unwrap_or-unseen.ensures, r, k.ensures, to_z_pos w32 c.args.longer.triples (omega (arith, c.requires.triples_le_grams_most))) refl

@@ -1,11 +1,36 @@
--- The list is filled with the entry's target words from its front.
-use native.Mathlib.Omega.{arith}
-use mathlib.Core.Path.{◌∙◌, sym, subst}
-use Prim.Native.Nat.{ℕ, ◌+◌}
-use lib.ListN.{drop, set, length-set}
-use Rattle.laws.proofs.Fill.{Filled}
-use Rattle.judging.proofs.Words.{copy_more}
+-- The list is filled with the numbers of the entry's target words, as words, from its front.
+use Rattle.std.proofs.Common.{ℕ, ◌≡◌, ◌+◌, ◌-◌, ◌≤◌, List, ℤ, pos, get_or, take, drop, length, ap, ◌∙◌, rules, arith}
+use lib.ListN.{length-drop}
+use lib.Seq.{length-take-le}
+use Rattle.laws.proofs.Fill.{fill_start}
+use Rattle.meaning.specs.Reply.{written_over}
+use Rattle.derivation.specs.Model.{word_of}
+use Rattle.derivation.specs.declared.Phrase.{Phrase}
+use Rattle.derivation.proofs.Rows.{words_are}
+use Rattle.judging.proofs.Words.{copy_more, copy_ends}
 use Rattle.judging.proofs.copy_words.Goals as goal
 
+-- the numbers of the entry's target words
+abbrev numbers : List ℤ → Phrase → List ℤ
+numbers book p = take (p.target + p.count - p.target) (drop p.target book)
+
+room : (book : List ℤ) (p : Phrase) (words : List ℕ) → p.target + p.count ≤ length book → p.count ≤ length words → length (numbers book p) ≤ length words
+room book p words h k = let l = length-take-le (p.target + p.count - p.target) (drop p.target book) (let d = length-drop p.target book in omega arith) in omega arith
+
+pub loop-j-init : goal.loop-j-init
+loop-j-init c = fill_start _ _
+
 pub loop-j-preserved : goal.loop-j-preserved
-loop-j-preserved c = let l = c.loop-j in (omega arith, (length-set l.words l.j _ ∙ l.invariant.1.0, λ e h. subst (λ (v : ℕ). Filled c.args.words.now (set l.words l.j v) (l.j + 1) (drop (l.j + 1) e.target) e.target) (sym c.word_at.ensures) (copy_more h.target_at _ c.requires.count_in_bounds c.loop-j-test.true (l.invariant.1.1 e h))))
+loop-j-preserved c =
+    let a = c.args in
+    let l = c.loop-j in
+    let y : c.word_of.result ≡ word_of (get_or (numbers a.book.now a.p) l.j (pos 0)) = search rules in
+    rw y (copy_more (numbers a.book.now a.p) a.words.now (room a.book.now a.p a.words.now c.requires.phrased.is.target_at.inside c.requires.count_in_bounds) l.j c.loop-j-test.true l.invariant)
+
+pub returns : goal.returns
+returns c =
+    let a = c.args in
+    let l = c.loop-j in
+    λ e q.
+    copy_ends (numbers a.book.now a.p) a.words.now (room a.book.now a.p a.words.now c.requires.phrased.is.target_at.inside c.requires.count_in_bounds) l.j c.loop-j-test.false l.invariant
+    ∙ ap (λ (xs : List ℕ). written_over xs a.words.now) (words_are q.target_at)

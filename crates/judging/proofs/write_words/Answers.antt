@@ -14,7 +14,7 @@ use Rattle.judging.proofs.write_words.Goals as goal
 
 pub loop-k-init : goal.loop-k-init
 unfolding target_words
-loop-k-init c = (omega arith, (omega arith, (refl, (refl, refl))))
+loop-k-init c = record { few = omega arith; long = refl; counted = refl; written = refl }
 
 pub loop-k-preserved : goal.loop-k-preserved
 loop-k-preserved c =
@@ -25,9 +25,14 @@ loop-k-preserved c =
     let of : PhraseOf c.args.book.now (entry_at book (step_in c.args.plain k).entry) p =
     subst (λ (x : Step). PhraseOf c.args.book.now (entry_at book x.entry) p) c.step_in-step.ensures c.phrase_at-p.ensures in
     let few = of.target_at.few in
-    let more = write_count book c.args.plain k c.args.words.now l.invariant.1.1.1.0 of.target_at.many_are in
-    let a = l.invariant.1.0 in
+    let more = write_count book c.args.plain k c.args.words.now l.invariant.counted of.target_at.many_are in
+    let a = l.invariant.few in
     let h = c.loop-k-test.true in
     let room = c.requires.count_bound.1 in
-    let written = write_more book c.args.plain k c.args.words.now l.invariant.1.1.1.1 l.invariant.1.1.1.0 (c.copy_words.ensures _ of) in
-    (omega arith, (omega arith, (ap length written ∙ over_long (target_words book (steps_to c.args.plain (k + 1))) c.args.words.now (omega arith), (more, written))))
+    let written = write_more book c.args.plain k c.args.words.now l.invariant.written l.invariant.counted (c.copy_words.ensures _ of) in
+    record {
+      few = omega arith;
+      long = ap length written ∙ over_long (target_words book (steps_to c.args.plain (k + 1))) c.args.words.now (omega arith);
+      counted = more;
+      written = written;
+    }

@@ -17,9 +17,9 @@ use Rattle.ngrams.specs.declared.Key.{Key}
 use Rattle.ngrams.specs.Grams.{words_of, key_of, grams_in}
 use Rattle.ngrams.proofs.Keys.{words_back, words_few}
 use Rattle.language.specs.declared.LanguageModel.{LanguageModel}
-use Rattle.language.specs.declared.Score.TheVariants.{Is, Unlisted}
+use Rattle.std.proofs.Common.{Some, None}
 use Rattle.language.specs.Language.{latest_score, latest_weight, unlisted_score, Shortens, IsModel}
-use Rattle.language.proofs.Scores.{weight_listed, score_listed, other_listed, words_some, as_many, drop_last_long, unlisted_word, unlisted_more, rest_within}
+use Rattle.language.proofs.Scores.{weight_listed, score_listed, words_some, as_many, drop_last_long, unlisted_word, unlisted_more, rest_within}
 use Rattle.language.proofs.+back_off.Goals as goal
 
 module _ (index : List ℕ) (m : LanguageModel) (key : Key) (model : IsModel index m) (padded : key ≡ key_of (words_of key)) (some : 1 < key.order) where
@@ -54,16 +54,16 @@ module _ (index : List ℕ) (m : LanguageModel) (key : Key) (model : IsModel ind
       record { is = sum.is ∙ z; within = subst (Within (score_most + 2 * score_most)) z sum.within }
 
   -- the words without the first are not listed, and went on
-  gone : (r : Key) (b : ℤ) → r ≡ key_of (drop 1 (words_of key)) → Unlisted ≡ latest_score index m.count r → b ≡ unlisted_score m.unseen (grams_in index m.count) (words_of r) → b ≡ rest_score
+  gone : (r : Key) (b : ℤ) → r ≡ key_of (drop 1 (words_of key)) → None ≡ latest_score index m.count r → b ≡ unlisted_score m.unseen (grams_in index m.count) (words_of r) → b ≡ rest_score
   gone r b e u f =
       f ∙ ap (unlisted_score m.unseen (grams_in index m.count)) (rest_words r e)
-      ∙ other_listed model.listing (drop 1 (words_of key)) (omega (arith, length-drop 1 (words_of key), words_few key)) _
+      ∙ score_listed model.listing (drop 1 (words_of key)) (omega (arith, length-drop 1 (words_of key), words_few key)) _ None
       (u ∙ ap (latest_score index m.count) e)
 
   -- or listed
-  got : (r : Key) (s : ℤ) → r ≡ key_of (drop 1 (words_of key)) → Is s ≡ latest_score index m.count r → s ≡ rest_score
+  got : (r : Key) (s : ℤ) → r ≡ key_of (drop 1 (words_of key)) → Some s ≡ latest_score index m.count r → s ≡ rest_score
   got r s e u =
-      score_listed model.listing (drop 1 (words_of key)) (omega (arith, length-drop 1 (words_of key), words_few key)) _ _
+      score_listed model.listing (drop 1 (words_of key)) (omega (arith, length-drop 1 (words_of key), words_few key)) _ (Some s)
       (u ∙ ap (latest_score index m.count) e)
 
 pub returns-then-key-le1 : goal.returns-then-key-le1
@@ -87,13 +87,13 @@ further t c =
     (gone a.index.now a.m a.key q.model q.key_value c.if-key-le1.false c.rest_of-rest.result c.back_off.result c.rest_of-rest.ensures c.in_default.ensures c.back_off.ensures)
 
 -- the sum where they are listed
-here : (t : ℕ) (c : goal.In-Is t) → Got (score_most + 2 * score_most) (i64 c.weight_of-weight.result +ℤ i64 c.in-Is.s) (unlisted_score c.args.m.unseen (grams_in c.args.index.now c.args.m.count) (words_of c.args.key))
+here : (t : ℕ) (c : goal.In-Some t) → Got (score_most + 2 * score_most) (i64 c.weight_of-weight.result +ℤ i64 c.in-Some.s) (unlisted_score c.args.m.unseen (grams_in c.args.index.now c.args.m.count) (words_of c.args.key))
 here t c =
     let a = c.args in
     let q = c.requires in
-    total a.index.now a.m a.key q.model q.key_value c.if-key-le1.false c.weight_of-weight.result c.in-Is.s
+    total a.index.now a.m a.key q.model q.key_value c.if-key-le1.false c.weight_of-weight.result c.in-Some.s
     (weight_is a.index.now a.m a.key q.model q.key_value c.if-key-le1.false c.history_of.result c.weight_of-weight.result c.history_of.ensures c.weight_of-weight.ensures)
-    (got a.index.now a.m a.key q.model q.key_value c.if-key-le1.false c.rest_of-rest.result c.in-Is.s c.rest_of-rest.ensures c.in-Is.ensures)
+    (got a.index.now a.m a.key q.model q.key_value c.if-key-le1.false c.rest_of-rest.result c.in-Some.s c.rest_of-rest.ensures c.in-Some.ensures)
 
 pub overflow_add-result : goal.overflow_add-result
 overflow_add-result t c = fits (further t c) (omega arith)

@@ -20,36 +20,36 @@ word_key w y e f = f ∙ ap (λ (ws : List ℕ). key_of (drop 1 ws)) (key_words 
 
 -- what the three tests say
 triple_listed : (c : After-is_listed) → c.is_listed.result ≡ is_listed (grams_in c.args.index.now c.args.m.count) (c.args.v ∷ c.args.w ∷ c.args.y ∷ [])
-triple_listed c = c.is_listed.ensures ∙ ap (is_listed (grams_in c.args.index.now c.args.m.count)) (key_words (c.args.v ∷ c.args.w ∷ c.args.y ∷ []) (omega arith) c.triple_key-triple.ensures)
+triple_listed c = c.is_listed.ensures ∙ ap (is_listed (grams_in c.args.index.now c.args.m.count)) (key_words (c.args.v ∷ c.args.w ∷ c.args.y ∷ []) (omega arith) c.triple-triple.ensures)
 
 pair-listed : (c : After-is_listed-2) → c.is_listed-2.result ≡ is_listed (grams_in c.args.index.now c.args.m.count) (c.args.w ∷ c.args.y ∷ [])
-pair-listed c = c.is_listed-2.ensures ∙ ap (is_listed (grams_in c.args.index.now c.args.m.count)) (key_words (c.args.w ∷ c.args.y ∷ []) (omega arith) (pair_key c.args.v c.args.w c.args.y c.triple_key-triple.ensures c.rest_of-pair.ensures))
+pair-listed c = c.is_listed-2.ensures ∙ ap (is_listed (grams_in c.args.index.now c.args.m.count)) (key_words (c.args.w ∷ c.args.y ∷ []) (omega arith) (pair_key c.args.v c.args.w c.args.y c.triple-triple.ensures c.rest_of-pair.ensures))
 
 word-listed : (c : After-is_listed-3) → c.is_listed-3.result ≡ is_listed (grams_in c.args.index.now c.args.m.count) (c.args.y ∷ [])
-word-listed c = c.is_listed-3.ensures ∙ ap (is_listed (grams_in c.args.index.now c.args.m.count)) (key_words (c.args.y ∷ []) (omega arith) (word_key c.args.w c.args.y (pair_key c.args.v c.args.w c.args.y c.triple_key-triple.ensures c.rest_of-pair.ensures) c.rest_of.ensures))
+word-listed c = c.is_listed-3.ensures ∙ ap (is_listed (grams_in c.args.index.now c.args.m.count)) (key_words (c.args.y ∷ []) (omega arith) (word_key c.args.w c.args.y (pair_key c.args.v c.args.w c.args.y c.triple-triple.ensures c.rest_of-pair.ensures) c.rest_of.ensures))
 
 pub is_listed-requires-clause-key_value : goal.is_listed-requires-clause-key_value
-is_listed-requires-clause-key_value c = key_padded (c.args.v ∷ c.args.w ∷ c.args.y ∷ []) (omega arith) c.triple_key-triple.ensures
+is_listed-requires-clause-key_value c = key_padded (c.args.v ∷ c.args.w ∷ c.args.y ∷ []) (omega arith) c.triple-triple.ensures
 
 pub returns-then-is_listed : goal.returns-then-is_listed
 unfolding supplier
 returns-then-is_listed c = rw (sym (triple_listed (goal.at.returns-then-is_listed c).After-is_listed) ∙ c.if-is_listed.true)
 
 pub rest_of-pair-requires : goal.rest_of-pair-requires
-rest_of-pair-requires c = key_shortens (c.args.v ∷ c.args.w ∷ c.args.y ∷ []) (omega arith) c.triple_key-triple.ensures (omega arith)
+rest_of-pair-requires c = key_shortens (c.args.v ∷ c.args.w ∷ c.args.y ∷ []) (omega arith) c.triple-triple.ensures (omega arith)
 
 pub is_listed-requires-2-clause-key_value : goal.is_listed-requires-2-clause-key_value
-is_listed-requires-2-clause-key_value c = key_padded (c.args.w ∷ c.args.y ∷ []) (omega arith) (pair_key c.args.v c.args.w c.args.y c.triple_key-triple.ensures c.rest_of-pair.ensures)
+is_listed-requires-2-clause-key_value c = key_padded (c.args.w ∷ c.args.y ∷ []) (omega arith) (pair_key c.args.v c.args.w c.args.y c.triple-triple.ensures c.rest_of-pair.ensures)
 
 pub returns-then-is_listed-2 : goal.returns-then-is_listed-2
 unfolding supplier
 returns-then-is_listed-2 c = rw (sym (triple_listed (goal.at.returns-then-is_listed-2 c).After-is_listed) ∙ c.if-is_listed.false, sym (pair-listed (goal.at.returns-then-is_listed-2 c).After-is_listed-2) ∙ c.if-is_listed-2.true)
 
 pub rest_of-requires : goal.rest_of-requires
-rest_of-requires c = key_shortens (c.args.w ∷ c.args.y ∷ []) (omega arith) (pair_key c.args.v c.args.w c.args.y c.triple_key-triple.ensures c.rest_of-pair.ensures) (omega arith)
+rest_of-requires c = key_shortens (c.args.w ∷ c.args.y ∷ []) (omega arith) (pair_key c.args.v c.args.w c.args.y c.triple-triple.ensures c.rest_of-pair.ensures) (omega arith)
 
 pub is_listed-requires-3-clause-key_value : goal.is_listed-requires-3-clause-key_value
-is_listed-requires-3-clause-key_value c = key_padded (c.args.y ∷ []) (omega arith) (word_key c.args.w c.args.y (pair_key c.args.v c.args.w c.args.y c.triple_key-triple.ensures c.rest_of-pair.ensures) c.rest_of.ensures)
+is_listed-requires-3-clause-key_value c = key_padded (c.args.y ∷ []) (omega arith) (word_key c.args.w c.args.y (pair_key c.args.v c.args.w c.args.y c.triple-triple.ensures c.rest_of-pair.ensures) c.rest_of.ensures)
 
 pub returns-then-is_listed-3 : goal.returns-then-is_listed-3
 unfolding supplier

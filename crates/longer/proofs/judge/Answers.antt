@@ -12,12 +12,12 @@ use Rattle.longer.proofs.judge.Goals as goal
 pub judge_longer-requires-clause-book_value : goal.judge_longer-requires-clause-book_value
 judge_longer-requires-clause-book_value c =
     let k = c.check_book in
-    check_number c.args.book.now k.result k.ensures ∙ ap refusal_of c.in-Passed.is
+    check_number c.args.book.now k.result k.ensures ∙ ap refusal_of c.in-Ok.is
 
-pub returns-in-Refused : goal.returns-in-Refused
-returns-in-Refused c =
+pub returns-in-Err : goal.returns-in-Err
+returns-in-Err c =
     let k = c.check_book in
-    let q = c.in-Refused.refusal in
-    let e = check_number c.args.book.now k.result k.ensures ∙ ap refusal_of c.in-Refused.is in
-    ap (λ (j : ℕ). texts_refusal c.args.text.now c.args.list.now orelse j) (refused_in_use q (book_refusal c.args.book.now) (book_refusal (longer_of c.args.text.now c.args.list.now c.args.book.now)) e)
+    let q = c.in-Err.refusal in
+    let e = check_number c.args.book.now k.result k.ensures ∙ ap refusal_of c.in-Err.is in
+    ap (λ (j : ℕ). texts_refusal c.args.text.now c.args.words.now.list.now orelse j) (refused_in_use q (book_refusal c.args.book.now) (book_refusal (longer_of c.args.text.now c.args.words.now.list.now c.args.book.now)) e)
     ∙ sym c.refuse_book.ensures

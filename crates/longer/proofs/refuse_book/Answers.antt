@@ -9,14 +9,14 @@ use Rattle.longer.proofs.Judging.{refusal_texts, room_none}
 use Rattle.longer.proofs.refuse_book.Goals as goal
 
 pub note_model-model-requires-clause-room : goal.note_model-model-requires-clause-room
-note_model-model-requires-clause-room c = rw c.fresh.ensures (room_none c.args.text.now c.args.cursor (omega arith))
+note_model-model-requires-clause-room c = rw (c.fresh.ensures, c.new-tally.ensures) (room_none c.args.text.now c.args.cursor (omega arith))
 
-pub returns-in-Passed : goal.returns-in-Passed
-returns-in-Passed c =
-    let z = c.in-Passed.ensures in
+pub returns-in-Ok : goal.returns-in-Ok
+returns-in-Ok c =
+    let z = c.in-Ok.ensures in
     sym (ap (λ (k : ℕ). k orelse number c.args.refusal) (sym (refusal_texts c.requires.opened c.note_model-model.ensures) ∙ sym z))
 
-pub returns-in-Refused : goal.returns-in-Refused
-returns-in-Refused c =
-    let q = c.in-Refused.refusal in
-    sym (refused_in_use q (texts_refusal c.args.text.now c.args.list.now) (number c.args.refusal) (sym (refusal_texts c.requires.opened c.note_model-model.ensures) ∙ sym c.in-Refused.ensures))
+pub returns-in-Err : goal.returns-in-Err
+returns-in-Err c =
+    let q = c.in-Err.refusal in
+    sym (refused_in_use q (texts_refusal c.args.text.now c.args.words.now.list.now) (number c.args.refusal) (sym (refusal_texts c.requires.opened c.note_model-model.ensures) ∙ sym c.in-Err.ensures))

@@ -1,10 +1,9 @@
 -- It asks what the definition asks, in the same order; a lone word is asked only whether it is `</s>`.
-use Prim.Native.Nat.{ℕ}
-use mathlib.Core.Path.{sym, ap, ◌∙◌}
-use mathlib.Core.List.{List}
+use mathlib.Core.Path.{sym, ◌∙◌}
 use native.Mathlib.Omega.{arith}
-use Rattle.arpa.specs.Lines.{eq_bytes}
 use Rattle.arpa.specs.Words.{start_word}
+use Rattle.tokens.specs.Scan.{field_at}
+use Rattle.tokens.proofs.Bytes.{same_is}
 use Rattle.ngram_lines.proofs.Places.{word_noted, stop_passed, short_kept, unknown_passed, last_passed}
 use Rattle.ngram_lines.proofs.is_passed_over.Goals as goal
 
@@ -24,5 +23,5 @@ field-requires c = word_noted c.requires c.args.at.order (omega arith)
 
 pub returns : goal.returns
 returns c = λ fields top f h.
-    c.same_bytes.ensures ∙ ap (λ (w : List ℕ). eq_bytes w start_word) c.field.ensures
+    c.eq.ensures ∙ rw (c.field.ensures, c.as_slice.ensures) (same_is (field_at c.args.text.now c.args.places.now c.args.at.order) start_word)
     ∙ sym (last_passed c.requires fields f (sym (c.has_word.ensures fields f) ∙ c.if-has_word.false) (omega arith) (sym (c.has_word-2.ensures fields f) ∙ c.if-has_word-2.false))

@@ -1,5 +1,5 @@
 -- What the tests say of it is what becomes of it; its line has the words' numbers and the two values, which are exact where both are in a score's range.
-use mathlib.Core.Path.{◌≡◌, sym, ◌∙◌}
+use mathlib.Core.Path.{◌≡◌, refl, sym, ◌∙◌}
 use native.Mathlib.Omega.{arith}
 use mir.Syntax.{w32}
 use mir.Val.{to_z, of_z}
@@ -34,7 +34,7 @@ returns-then-is_unknown-clause-by_index c = let r : to_z w32 (of_z w32 c.value_a
 
 pub put_row-size-requires-clause-are_small : goal.put_row-size-requires-clause-are_small
 put_row-size-requires-clause-are_small c = let p = c.requires.gram_read in
-    (c.words_of-words.ensures p.fields p.top p.at p.is).small
+    (c.words_of-numbers.ensures p.fields p.top p.at p.is).small
 
 pub returns-clause-by_index : goal.returns-clause-by_index
 returns-clause-by_index c =
@@ -45,12 +45,12 @@ returns-clause-by_index c =
     let q : to_z w32 (of_z w32 weight.result) ≡ weight.result = search rules in
     let put = c.put_row-size.ensures in
     λ fields top f h.
-    row_is c.args.list.now (ngram_of n fields) c.put_row-size.result c.put_row-size.new.row
+    row_is c.args.words.now.list.now (ngram_of n fields) c.put_row-size.result c.put_row-size.new.row
     (sym (c.is_passed_over.ensures fields top f h) ∙ c.if-is_passed_over.false)
     (sym (c.is_unknown.ensures fields f) ∙ c.if-is_unknown.false)
-    (c.words_of-words.ensures fields top f h)
+    (c.words_of-numbers.ensures fields top f h)
     (rw (score_noted f top n c.requires.gram_read.order_to h).1 score.ensures)
     (weight.ensures fields top f h)
-    (c.and_also-ranged.ensures ∙ rw (c.is_score.ensures, c.is_score-2.ensures, p, q))
+    (rw (c.is_score.ensures, c.is_score-2.ensures, p, q) refl)
     (rw (p, q) at put.row_after)
     put.upper_bound.0

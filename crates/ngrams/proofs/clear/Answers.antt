@@ -1,10 +1,15 @@
--- Each head before k is 0, and behind the heads nothing changed. The measure is what is left of the heads.
+-- Each head is 0, and behind the heads nothing changed.
 use native.Mathlib.Omega.{arith}
-use Rattle.ngrams.proofs.Parts.{kept_set, kept_then}
-use Rattle.ngrams.proofs.Index.{heads_none}
+use mathlib.Core.Path.{refl}
+use lib.ListN.{length-take}
+use Rattle.ngrams.specs.Parts.{bucket_count, head_at}
+use Rattle.ngrams.proofs.Index.{heads_cleared}
 use Rattle.ngrams.proofs.clear.Goals as goal
 
-pub loop-k-preserved : goal.loop-k-preserved
-loop-k-preserved c =
-    let i = c.loop-k.invariant in
-    (omega arith, heads_none c.loop-k.index c.loop-k.k i.1 (omega (arith, i.2.size)), kept_then (omega arith) i.2 (kept_set c.loop-k.index c.loop-k.k 0 (omega arith)))
+pub returns : goal.returns
+unfolding head_at
+returns c =
+    let index = c.args.index.now in
+    let long = length-take bucket_count index in
+    let e = heads_cleared bucket_count index c.fill.new.self (omega (arith, c.fill.ensures.len, long)) (omega arith) (λ k l. c.fill.ensures.clones k 0 (omega (arith, long)) refl) in
+    record { none = e.0; kept = e.1 }

@@ -1,28 +1,20 @@
 -- A record of the words lies in their bucket, so the chain of that bucket meets it, latest first. The measure is the place: a link goes to an earlier record.
-use mathlib.Core.Path.{sym, ◌∙◌}
-use native.Mathlib.Omega.{arith}
-use Rattle.laws.proofs.Index.{walk_out, walk_hit}
-use Rattle.ngrams.proofs.Index.{index_start, index_step, index_less}
+use mathlib.Core.Path.{◌∙◌}
+use Rattle.ngrams.proofs.Keys.{holds_is}
+use Rattle.ngrams.proofs.Index.{index_start, index_hit, index_step, index_less, index_out}
 use Rattle.ngrams.proofs.find.Goals as goal
 
-pub loop-at-init : goal.loop-at-init
-loop-at-init c = index_start c.requires c.args.key c.bucket.ensures.0 c.bucket.ensures.1 c.number_at-at.ensures.0
+pub loop-next-init : goal.loop-next-init
+loop-next-init c = index_start c.requires c.args.key c.bucket.ensures.0 c.bucket.ensures.1 c.link_at-next.ensures
 
-pub returns-then-is_key : goal.returns-then-is_key
-returns-then-is_key c =
-    let l = c.loop-at in
-    let e = walk_hit l.invariant c.loop-at-test.true (sym c.is_key.ensures ∙ c.if-is_key.true) in
-    omega (arith, c.loop-at-test.true, e)
+pub returns-then-eq : goal.returns-then-eq
+returns-then-eq c = index_hit c.requires c.args.key (rw c.in-Some.is at c.loop-next.invariant) (holds_is c.args.index.now c.args.key c.in-Some.k c.key_at.ensures c.eq.ensures ∙ c.if-eq.true)
 
-pub loop-at-smaller : goal.loop-at-smaller
-loop-at-smaller c =
-    let l = c.loop-at in
-    index_less c.requires l.at c.loop-at-test.true l.invariant.bound c.number_at-at-in-loop-at.ensures.0
+pub loop-next-smaller : goal.loop-next-smaller
+loop-next-smaller c = rw c.in-Some.is (index_less c.requires c.args.key (rw c.in-Some.is at c.loop-next.invariant) c.link_at-next-in-Some.ensures)
 
-pub loop-at-preserved : goal.loop-at-preserved
-loop-at-preserved c =
-    let l = c.loop-at in
-    index_step c.requires c.args.key l.invariant c.loop-at-test.true (sym c.is_key.ensures ∙ c.if-is_key.false) c.number_at-at-in-loop-at.ensures.0
+pub loop-next-preserved : goal.loop-next-preserved
+loop-next-preserved c = index_step c.requires c.args.key (rw c.in-Some.is at c.loop-next.invariant) c.link_at-next-in-Some.ensures (holds_is c.args.index.now c.args.key c.in-Some.k c.key_at.ensures c.eq.ensures ∙ c.if-eq.false)
 
 pub returns : goal.returns
-returns c = sym (walk_out c.loop-at.invariant c.loop-at-test.false)
+returns c = index_out c.requires c.args.key (rw c.in_default.is at c.loop-next.invariant)

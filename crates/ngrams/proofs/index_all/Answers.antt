@@ -1,4 +1,4 @@
--- What the records before i answer goes into the answer of those up to i. The measure is what is left of the records.
+-- What the records before i answer goes into the answer of those up to i.
 use native.Mathlib.Omega.{arith}
 use Prim.Native.Nat.{ℕ, ◌+◌}
 use mathlib.Core.Path.{◌≡◌, refl, sym, ap, ◌∙◌}
@@ -15,7 +15,6 @@ loop-i-init c =
     record {
       indexed = index_none c.requires k;
       room = kept_room (kept_records k.kept) c.requires;
-      within = omega arith;
       kept = records_all c.clear.new.index;
       answer = refl;
     }
@@ -27,7 +26,6 @@ loop-i-preserved c =
     record {
       indexed = k.indexed;
       room = kept_room k.kept l.invariant.room;
-      within = omega (arith, c.loop-i-test.true);
       kept = records_then l.invariant.kept k.kept;
       answer =
           c.with_repeat-found.ensures
@@ -39,7 +37,7 @@ loop-i-preserved c =
 pub returns : goal.returns
 returns c =
     let l = c.loop-i in
-    let e : l.i ≡ c.args.count = omega (arith, l.invariant.within, c.loop-i-test.false) in
+    let e : l.i ≡ c.args.count = omega arith in
     let same = records_then (kept_records c.clear.ensures.kept) l.invariant.kept in
     record {
       answer = l.invariant.answer ∙ ap (repeat_refusal l.index) e ∙ kept_repeats same c.args.count;

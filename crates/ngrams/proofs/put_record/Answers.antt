@@ -1,15 +1,12 @@
 -- The stores are those of the definition: three words, how many there are, then the halves of the score and of the weight.
-use mathlib.Core.Path.{◌≡◌, ◌∙◌}
+use mathlib.Core.Path.{◌∙◌}
 use mir.Syntax.{w32}
 use Rattle.laws.proofs.Integers.{back}
-use Rattle.ngrams.specs.Grams.{put_record}
 use Rattle.ngrams.proofs.Records.{put_is}
 use Rattle.ngrams.proofs.put_record.Goals as goal
-use Rattle.ngrams.proofs.put_record.Goals.{After-slice_known-3-1}
 
--- what was stored
-stored : (c : After-slice_known-3-1) → let s = c.args in c.put_signed-2.new.list ≡ put_record s.index.now s.k s.line.now
-stored c =
+pub returns : goal.returns
+returns c =
     let s = c.args in
     put_is s.index.now s.line.now s.k
     c.order_of-n.ensures.value
@@ -20,6 +17,3 @@ stored c =
     (back w32 c.number_at-2.result c.number_at-2.type_inv ∙ c.number_at-2.ensures)
     c.put_signed.ensures
     c.put_signed-2.ensures
-
-pub returns : goal.returns
-returns c = stored (goal.at.returns c).After-slice_known-3-1

@@ -2,5 +2,5 @@
 use Rattle.opening.proofs.Starting.{opened}
 use Rattle.opening.proofs.open_book.Goals as goal
 
-pub returns-in-Book : goal.returns-in-Book
-returns-in-Book c = opened c.in-Book.ensures c.find_entries-phrases.ensures
+pub returns : goal.returns
+returns c = opened c.in_ok-grams.ensures c.find_entries-phrases.ensures

@@ -11,13 +11,12 @@ use Rattle.options.proofs.Listing.{Filled, filled_none, filled_more, at_most, op
 use Rattle.options.proofs.list_options.Goals as goal
 
 record Filling (book : Book) (direction options₀ options : List ℕ) (i count : ℕ) : Type 0 where
-  inside : i ≤ length direction
   long : length options ≡ length options₀
   few : count ≤ i * entries_most
   filled : Filled book direction options i count
 
 pub loop-i-init : goal.loop-i-init
-loop-i-init c = record { inside = omega arith; long = refl; few = omega arith; filled = filled_none (book_of c.args.book.now) c.args.direction.now c.put_start.ensures }
+loop-i-init c = record { long = refl; few = omega arith; filled = filled_none (book_of c.args.book.now) c.args.direction.now c.put_start.ensures }
 
 pub put_start-requires-in-loop-i-clause-start_bound : goal.put_start-requires-in-loop-i-clause-start_bound
 put_start-requires-in-loop-i-clause-start_bound c = let t = c.loop-i-test.true in
@@ -49,7 +48,6 @@ loop-i-preserved c =
     let a = l.invariant.few in
     let n = g.ensures.counted in
     record {
-      inside = omega arith;
       long = w.ensures.long ∙ g.ensures.long ∙ l.invariant.long;
       few = omega arith;
       filled = filled_more (book_of c.args.book.now) c.args.direction.now l.invariant.filled (omega arith) (omega arith) (rw c.requires.entries_at.counted at g.ensures) w.ensures;
@@ -59,7 +57,7 @@ pub returns : goal.returns
 unfolding word_count
 returns c =
     let l = c.loop-i in
-    let i = l.invariant.inside in
+    let i = l.auto.i-end in
     let t = c.loop-i-test.false in
     let d = c.requires.direction_len_bound in
     let r = c.requires.options_size_in_bounds in

@@ -2,5 +2,5 @@
 use Rattle.plain.proofs.Whole.{refused_direction}
 use Rattle.plain.proofs.decode_open.Goals as goal
 
-pub returns-in-Refused : goal.returns-in-Refused
-returns-in-Refused c = refused_direction _ _ _ _ _ _ _ c.requires.fact.passed (c.in-Refused.ensures) c.refused.ensures
+pub returns-in-Err : goal.returns-in-Err
+returns-in-Err c = refused_direction _ _ _ _ _ _ _ c.requires.fact.passed (c.in-Err.ensures) c.refused.ensures

@@ -3,5 +3,5 @@
 use Rattle.plain.proofs.Whole.{refused_book}
 use Rattle.plain.proofs.decode_plain.Goals as goal
 
-pub returns-in-Refused : goal.returns-in-Refused
-returns-in-Refused c = refused_book _ _ _ _ _ _ _ (c.in-Refused.ensures) c.refused.ensures
+pub returns-in-Err : goal.returns-in-Err
+returns-in-Err c = refused_book _ _ _ _ _ _ _ (c.in-Err.ensures) c.refused.ensures

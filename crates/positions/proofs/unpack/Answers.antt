@@ -1,21 +1,16 @@
 -- What is left of the number holds the digits that are still to come.
-use Prim.Native.Nat.{◌<◌}
-use mathlib.Core.Path.{◌∙◌}
-use native.Mathlib.Omega.{arith}
-use lib.ListN.{length, length-set}
+use Rattle.std.proofs.Common.{◌<◌, length, ◌∙◌, length-set, arith}
 use Rattle.positions.proofs.Laws.{unpack_more, left_more}
 use Rattle.positions.proofs.unpack.Goals as goal
 
-pub loop-i-preserved : goal.loop-i-preserved
-loop-i-preserved c = let l = c.loop-i in
-    let h : l.i < c.args.n = c.loop-i-test.true in
-    let room : l.i < length l.digits = omega arith in (
-      omega arith,
-      (
-        length-set l.digits l.i _ ∙ l.invariant.1.0,
-        (
-          unpack_more l.digits _ _ l.i l.rest h room l.invariant.1.1.0 l.invariant.1.1.1,
-          left_more l.digits _ _ l.i l.rest h room l.invariant.1.1.0 l.invariant.1.1.1,
-        ),
-      ),
-    )
+pub loop-digit-preserved : goal.loop-digit-preserved
+loop-digit-preserved c =
+    let l = c.loop-digit in
+    let k = l.invariant in
+    let room : l.digit-index < length l.digit-items = omega arith in
+    record {
+      ends = k.ends;
+      long = length-set l.digit-items l.digit-index _ ∙ k.long;
+      unpacked = unpack_more l.digit-items _ _ l.digit-index l.rest (omega arith) room k.unpacked k.left;
+      left = left_more l.digit-items _ _ l.digit-index l.rest (omega arith) room k.unpacked k.left;
+    }

@@ -1,7 +1,6 @@
--- The fields of the numbers passed are put; the measure is how many numbers are left.
+-- The fields of the numbers passed are put.
 use borrow.Author.Rules.{rules}
 use mathlib.Core.Path.{refl}
-use native.Mathlib.Omega.{arith}
 use lib.IntN.{pos}
 use lib.ListN.{get_or}
 use mir.Syntax.{w64}
@@ -10,15 +9,13 @@ use Rattle.decimals.specs.Put.{field}
 use Rattle.decimals.proofs.Laws.{each_room, each_more}
 use Rattle.printing.proofs.put_fields.Goals as goal
 
-pub put_field-next-requires-clause-z_in_bounds : goal.put_field-next-requires-clause-z_in_bounds
-put_field-next-requires-clause-z_in_bounds c =
-    let i = c.loop-i.i in
-    rw (back w64 (get_or c.args.numbers.now i (pos 0)) (search rules)) (each_room field c.args.numbers.now i (pos 0) c.loop-i-test.true refl c.loop-i.invariant.1 c.requires.numbers_in_bounds)
+pub put_field-next-requires : goal.put_field-next-requires
+put_field-next-requires c =
+    let i = c.loop-number.number-index in
+    rw (back w64 (get_or c.args.numbers.now i (pos 0)) (search rules)) (each_room field c.args.numbers.now i (pos 0) c.loop-number-test.true refl c.loop-number.invariant c.requires)
 
-pub loop-i-preserved : goal.loop-i-preserved
-loop-i-preserved c =
-    let i = c.loop-i.i in
-    let z = get_or c.args.numbers.now i (pos 0) in (
-      omega arith,
-      each_more field c.args.numbers.now i (pos 0) c.loop-i-test.true refl c.loop-i.invariant.1 (rw (back w64 z (search rules)) at c.put_field-next.ensures),
-    )
+pub loop-number-preserved : goal.loop-number-preserved
+loop-number-preserved c =
+    let i = c.loop-number.number-index in
+    let z = get_or c.args.numbers.now i (pos 0) in
+    each_more field c.args.numbers.now i (pos 0) c.loop-number-test.true refl c.loop-number.invariant (rw (back w64 z (search rules)) at c.put_field-next.ensures)

@@ -8,8 +8,8 @@ use Rattle.printing.proofs.put_line.Goals as goal
 pub put_byte-first-requires : goal.put_byte-first-requires
 put_byte-first-requires c = omega (arith, line_long c.args.letter c.args.numbers.now)
 
-pub put_fields-end-requires-clause-numbers_in_bounds : goal.put_fields-end-requires-clause-numbers_in_bounds
-put_fields-end-requires-clause-numbers_in_bounds c = omega (arith, line_long c.args.letter c.args.numbers.now, c.put_byte-first.ensures)
+pub put_fields-end-requires : goal.put_fields-end-requires
+put_fields-end-requires c = omega (arith, line_long c.args.letter c.args.numbers.now, c.put_byte-first.ensures)
 
 pub put_byte-requires : goal.put_byte-requires
 put_byte-requires c = omega (arith, line_long c.args.letter c.args.numbers.now, c.put_byte-first.ensures, c.put_fields-end.ensures)

@@ -1,4 +1,4 @@
--- The lines of the steps passed are put; the measure is how many steps are left.
+-- The lines of the steps passed are put.
 use Prim.Native.Nat.{◌≤◌, ◌<◌}
 use native.Mathlib.Omega.{arith}
 use lib.ListN.{length}
@@ -15,7 +15,7 @@ put_step-next-requires c =
     let p = plain_of c.args.plain.now c.args.count in
     let h : i < c.args.count = c.loop-i-test.true in
     let l : i < length (steps_of p) = rw (count_steps p c.args.count) h in
-    each_room printed_step (steps_of p) i (step_in p 0) l (step_at p c.args.count i (step_in p 0) h) c.loop-i.invariant.1 c.requires.count_in_bounds_2
+    each_room printed_step (steps_of p) i (step_in p 0) l (step_at p c.args.count i (step_in p 0) h) c.loop-i.invariant c.requires.count_in_bounds_2
 
 pub loop-i-preserved : goal.loop-i-preserved
 loop-i-preserved c =
@@ -23,10 +23,10 @@ loop-i-preserved c =
     let p = plain_of c.args.plain.now c.args.count in
     let h : i < c.args.count = c.loop-i-test.true in
     let l : i < length (steps_of p) = rw (count_steps p c.args.count) h in
-    (omega arith, each_more printed_step (steps_of p) i (step_in p 0) l (step_at p c.args.count i (step_in p 0) h) c.loop-i.invariant.1 c.put_step-next.ensures)
+    each_more printed_step (steps_of p) i (step_in p 0) l (step_at p c.args.count i (step_in p 0) h) c.loop-i.invariant c.put_step-next.ensures
 
 pub returns : goal.returns
 returns c =
     let p = plain_of c.args.plain.now c.args.count in
     let l : length (steps_of p) ≤ c.loop-i.i = rw (count_steps p c.args.count) (omega arith) in
-    each_end printed_step (steps_of p) c.loop-i.i l c.loop-i.invariant.1
+    each_end printed_step (steps_of p) c.loop-i.i l c.loop-i.invariant

@@ -1,5 +1,4 @@
--- The lines of the steps passed are put; the measure is how many steps are left.
-use Prim.Native.Nat.{◌-◌, ◌≤◌}
+-- The lines of the steps passed are put.
 use mathlib.Core.List.{map}
 use lib.ListN.{take}
 use Rattle.laws.specs.Lists.{concat}
@@ -10,7 +9,4 @@ use Rattle.decimals.specs.Put.{Put}
 use Rattle.printing.proofs.put_steps.Given as goal
 
 abbrev pub invariant-loop-i : goal.invariant-loop-i
-invariant-loop-i l = (l.i ≤ l.count) × Put (concat (map printed_step (take l.i (steps_of (plain_of l.plain l.count))))) l.at l.next l.initial.out l.out
-
-abbrev pub decreases-loop-i : goal.decreases-loop-i
-decreases-loop-i l = l.count - l.i
+invariant-loop-i l = Put (concat (map printed_step (take l.i (steps_of (plain_of l.plain l.count))))) l.at l.next l.initial.out l.out

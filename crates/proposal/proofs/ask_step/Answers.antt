@@ -61,8 +61,9 @@ pub is_free-requires : goal.is_free-requires
 is_free-requires c =
     let f = fits_facts (book_of c.args.book.now) c.args.direction.now (step_of c.args.first c.args.last c.args.entry) (fitting (goal.at.is_free-requires c).Else-not-is_fitting) in
     let d = (direction_few c.args.direction.now c.requires.prepared.directed).1 in
+    let g = f.first_to in
     let l = f.last_to in
-    (f.first_from, (f.first_to, omega arith))
+    (f.first_from, (omega arith, omega arith))
 
 pub returns-then-not-is_free : goal.returns-then-not-is_free
 returns-then-not-is_free c = λ rest.

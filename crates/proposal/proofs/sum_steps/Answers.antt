@@ -6,6 +6,7 @@ use mathlib.Core.Path.{◌≡◌, sym, ◌∙◌, ap}
 use mathlib.Core.List.{[], ◌∷◌}
 use lib.IntN.{ℤ}
 use lib.Pow.{pow_mono, pow_pos}
+use Rattle.std.proofs.lemmas.Result.{err_from_is_err_and}
 use Rattle.laws.proofs.Got.{i64}
 use Rattle.meaning.specs.Book.{book_of}
 use Rattle.meaning.specs.Direction.{word_count}
@@ -32,14 +33,14 @@ left_next : (c : In-loop-i)
     Scoring (book_of c.args.book.now) c.args.direction.now (steps_in c.args.steps.now c.args.count) l.s (step_in c.args.steps.now l.i ∷ rest c.args.steps.now c.args.count (l.i + 1))
 left_next c =
     let l = c.loop-i in
-    rw (rest_next c.args.steps.now c.args.count l.i (omega (arith, c.loop-i-test.true))) at l.invariant.1
+    rw (rest_next c.args.steps.now c.args.count l.i (omega (arith, c.loop-i-test.true))) at l.invariant
 
 -- none is left
 left_none : (c : After-loop-i)
     → Scoring (book_of c.args.book.now) c.args.direction.now (steps_in c.args.steps.now c.args.count) c.loop-i.s []
 left_none c =
     let l = c.loop-i in
-    rw (rest_end c.args.steps.now c.args.count l.i (omega (arith, c.loop-i-test.false))) at l.invariant.1
+    rw (rest_end c.args.steps.now c.args.count l.i (omega (arith, c.loop-i-test.false))) at l.invariant
 
 -- all digits
 all_ones : (c : After-covered_with) → c.covered_with.result ≡ 2 ^ word_count c.args.direction.now - 1
@@ -48,18 +49,18 @@ all_ones c = let n = c.requires.prepared.n_is in let e = rw n at c.covered_with.
 pub loop-i-init : goal.loop-i-init
 loop-i-init c =
     let b = c.args in
-    (omega arith, rw (rest_start b.steps.now b.count) (scoring_starts (book_of b.book.now) b.direction.now (steps_in b.steps.now b.count)))
+    rw (rest_start b.steps.now b.count) (scoring_starts (book_of b.book.now) b.direction.now (steps_in b.steps.now b.count))
 
-pub returns-in-Refused : goal.returns-in-Refused
-returns-in-Refused c =
+pub returns-in_err-s : goal.returns-in_err-s
+returns-in_err-s c =
     let b = c.args in
-    scoring_stops (book_of b.book.now) b.direction.now (left_next (goal.at.returns-in-Refused c).In-loop-i) c.in-Refused.refusal (rw c.in-Refused.is at c.ask_step.ensures)
+    let p = err_from_is_err_and c.from_residual.result c.from_residual.ensures.1 in
+    rw (p.1, p.2) (scoring_stops (book_of b.book.now) b.direction.now (left_next (goal.at.returns-in_err-s c).In-loop-i) c.in_err-s.field-0.0 c.in_err-s.ensures)
 
 pub loop-i-preserved : goal.loop-i-preserved
 loop-i-preserved c =
     let b = c.args in
-    let t = c.loop-i-test.true in
-    (omega arith, scoring_goes (book_of b.book.now) b.direction.now (left_next (goal.at.loop-i-preserved c).In-loop-i) (rw c.in-Next.is at c.ask_step.ensures))
+    scoring_goes (book_of b.book.now) b.direction.now (left_next (goal.at.loop-i-preserved c).In-loop-i) c.in_ok-s.ensures
 
 pub covered_with-requires : goal.covered_with-requires
 covered_with-requires c =

@@ -7,16 +7,16 @@ use Rattle.reading.proofs.TextReplies.{answer_counted, text_counted}
 use Rattle.reading.proofs.Room.{eight_bytes}
 use Rattle.reading.proofs.check_in.Goals as goal
 
-pub settle_whole-loaded-requires-clause-tally_in_bounds : goal.settle_whole-loaded-requires-clause-tally_in_bounds
-settle_whole-loaded-requires-clause-tally_in_bounds c =
-    let tally = c.survey_text-surveyed.new.tally in
-    let w = c.in-Whole.ensures in
+pub settle_whole-loaded-requires : goal.settle_whole-loaded-requires
+settle_whole-loaded-requires c =
+    let tally = c.survey_text.new.tally in
+    let w = c.in-Some.ensures in
     λ few. omega (arith, c.requires (gram_count tally) (few_grams tally few) (eight_bytes w))
 
 pub returns : goal.returns
 returns c =
     let t = c.args.text.now in
     let k = c.settle_whole-loaded in
-    let s = c.in-Whole.ensures in
+    let s = c.in-Some.ensures in
     rw c.counted.ensures
-    (answer_counted t c.in-Whole.count _ _ _ k.result s.formed s.counted s.lines.tallied (k.ensures in_text (text_lines t) _ s.lines (text_counted (text_lines t))))
+    (answer_counted t c.in-Some.surveyed.count _ _ _ k.result s.formed s.counted s.lines.tallied (k.ensures in_text (text_lines t) _ s.lines (text_counted (text_lines t))))

@@ -5,7 +5,7 @@ use Rattle.reading.proofs.Walk.{Walked}
 use Rattle.reading.proofs.survey_text.Given as goal
 
 abbrev pub invariant-loop-at : goal.invariant-loop-at
-invariant-loop-at l = Walked l.text l.initial.index l.acc l.tally l.index l.row l.count l.at
+invariant-loop-at l = Walked l.text l.initial.index l.survey l.tally l.index l.row l.count l.at
 
 abbrev pub decreases-loop-at : goal.decreases-loop-at
 decreases-loop-at l = length l.text - l.at

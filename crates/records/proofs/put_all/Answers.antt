@@ -6,4 +6,4 @@ use Rattle.records.proofs.put_all.Goals as goal
 pub returns : goal.returns
 returns c =
     let e : c.loop-k.k ≡ c.args.plain.count = omega arith in
-    c.loop-k.invariant.1 ∙ ap (λ (k : ℕ). put_from c.args.plain k c.args.steps.now) e ∙ put_over c.args.plain c.args.steps.now c.requires.0
+    c.loop-k.invariant ∙ ap (λ (k : ℕ). put_from c.args.plain k c.args.steps.now) e ∙ put_over c.args.plain c.args.steps.now c.requires.0

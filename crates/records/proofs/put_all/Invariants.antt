@@ -1,10 +1,7 @@
 -- After k turns the first k steps stand at the beginning of the caller's records, so after `count` turns all do, and the rest is as it was.
-use Rattle.std.proofs.Common.{◌-◌, ◌≡◌, ◌≤◌}
+use Rattle.std.proofs.Common.{◌≡◌}
 use Rattle.records.proofs.Laws.{put_from}
 use Rattle.records.proofs.put_all.Given as goal
 
 abbrev pub invariant-loop-k : goal.invariant-loop-k
-invariant-loop-k l = (l.k ≤ l.plain.count) × (l.steps ≡ put_from l.plain l.k l.initial.steps)
-
-abbrev pub decreases-loop-k : goal.decreases-loop-k
-decreases-loop-k l = l.plain.count - l.k
+invariant-loop-k l = l.steps ≡ put_from l.plain l.k l.initial.steps

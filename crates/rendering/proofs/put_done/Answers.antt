@@ -3,11 +3,8 @@ use Prim.Native.Nat.{◌≤◌}
 use native.Mathlib.Omega.{arith}
 use lib.ListN.{length}
 use Rattle.rendering.specs.Parts.{printed_done}
-use Rattle.rendering.proofs.Short.{done_printable, done_short}
+use Rattle.rendering.proofs.Short.{done_short}
 use Rattle.rendering.proofs.put_done.Goals as goal
-
-pub put_answer-requires-clause-printable : goal.put_answer-requires-clause-printable
-put_answer-requires-clause-printable c = done_printable c.args.answer c.requires.fits
 
 pub put_answer-requires-clause-words_in_bounds : goal.put_answer-requires-clause-words_in_bounds
 put_answer-requires-clause-words_in_bounds c =

@@ -14,15 +14,15 @@ use Rattle.rendering.proofs.Inputs.{Filled, book_filled, book_refusal_lem}
 use Rattle.round_program.proofs.Inputs.{read_book_passes, too_long, book_refused, book_read}
 use borrow.Author.Rules.{rules}
 use Rattle.round_program.proofs.print_round.Goals as goal
-use Rattle.round_program.proofs.print_round.Goals.{Else-not-are_short, In-Numbers}
+use Rattle.round_program.proofs.print_round.Goals.{Else-not-are_short, In-Ok}
 
 -- the test has passed
 was_short : (c : Else-not-are_short) → leb (length c.args.book.now) 8_192 && leb (length c.args.text.now) 32_768 ≡ true
 was_short c = sym c.are_short.ensures ∙ c.if-not-are_short.false
 
 -- the book that was read
-book_was_read : (c : In-Numbers) → Filled (read_refusal c.args.book.now 8_192) c.in-Numbers.n (loaded_of c.args.book.now) c.read_book.new.book
-book_was_read c = book_filled _ _ _ _ _ c.in-Numbers.is c.read_book.ensures.result_value c.read_book.ensures.book_after
+book_was_read : (c : In-Ok) → Filled (read_refusal c.args.book.now 8_192) c.in-Ok.n (loaded_of c.args.book.now) c.read_book.new.book
+book_was_read c = book_filled _ _ _ _ _ c.in-Ok.is c.read_book.ensures.result_value c.read_book.ensures.book_after
 
 pub put_refusal-requires : goal.put_refusal-requires
 put_refusal-requires c =
@@ -35,30 +35,30 @@ returns-then-not-are_short c =
     record { value = p.0; out_after = p.1 }
 
 pub slice_bounds-loaded-end : goal.slice_bounds-loaded-end
-slice_bounds-loaded-end c = (book_was_read (goal.at.slice_bounds-loaded-end c).In-Numbers).inside
+slice_bounds-loaded-end c = (book_was_read (goal.at.slice_bounds-loaded-end c).In-Ok).inside
 
-pub slice_bounds-put_text-end-in-Numbers : goal.slice_bounds-put_text-end-in-Numbers
-slice_bounds-put_text-end-in-Numbers c = sym (length-take-le _ _ (book_was_read (goal.at.slice_bounds-put_text-end-in-Numbers c).In-Numbers).inside)
+pub slice_bounds-put_text-end-in-Ok : goal.slice_bounds-put_text-end-in-Ok
+slice_bounds-put_text-end-in-Ok c = sym (length-take-le _ _ (book_was_read (goal.at.slice_bounds-put_text-end-in-Ok c).In-Ok).inside)
 
 pub put_text-requires-clause-book_value : goal.put_text-requires-clause-book_value
-put_text-requires-clause-book_value c = read_book_passes _ (book_was_read (goal.at.put_text-requires-clause-book_value c).In-Numbers)
+put_text-requires-clause-book_value c = read_book_passes _ (book_was_read (goal.at.put_text-requires-clause-book_value c).In-Ok)
 
-pub put_refusal-requires-in-Refused : goal.put_refusal-requires-in-Refused
-put_refusal-requires-in-Refused c =
+pub put_refusal-requires-in-Err : goal.put_refusal-requires-in-Err
+put_refusal-requires-in-Err c =
     let room : 2_048 ≤ length c.args.out.now = search rules in
-    omega (arith, refusal_short c.in-Refused.refusal)
+    omega (arith, refusal_short c.in-Err.refusal)
 
-pub returns-in-Numbers : goal.returns-in-Numbers
-returns-in-Numbers c =
-    let p = put_over (put_is (book_read _ _ (was_short (goal.at.returns-in-Numbers c).Else-not-are_short) (book_was_read (goal.at.returns-in-Numbers c).In-Numbers)) c.put_text.ensures) in
+pub returns-in-Ok : goal.returns-in-Ok
+returns-in-Ok c =
+    let p = put_over (put_is (book_read _ _ (was_short (goal.at.returns-in-Ok c).Else-not-are_short) (book_was_read (goal.at.returns-in-Ok c).In-Ok)) c.put_text.ensures) in
     record { value = p.0; out_after = p.1 }
 
-pub returns-in-Refused : goal.returns-in-Refused
-returns-in-Refused c =
+pub returns-in-Err : goal.returns-in-Err
+returns-in-Err c =
     let p =
     put_over
     (put_is
-    (book_refused _ _ (was_short (goal.at.returns-in-Refused c).Else-not-are_short) c.in-Refused.refusal
-    (book_refusal_lem _ _ 8_192 _ c.in-Refused.is c.read_book.ensures.result_value))
-    c.put_refusal-in-Refused.ensures) in
+    (book_refused _ _ (was_short (goal.at.returns-in-Err c).Else-not-are_short) c.in-Err.refusal
+    (book_refusal_lem _ _ 8_192 _ c.in-Err.is c.read_book.ensures.result_value))
+    c.put_refusal-in-Err.ensures) in
     record { value = p.0; out_after = p.1 }

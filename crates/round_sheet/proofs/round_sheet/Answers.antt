@@ -1,4 +1,6 @@
 -- The round is decoded where there are bytes enough, and its answers are told.
+use Rattle.std.specs.declared.result.Result.{Result}
+use Rattle.meaning.specs.declared.Refusal.{Refusal}
 use Prim.Native.Nat.{ℕ}
 use mathlib.Core.Path.{◌≡◌}
 use mathlib.Core.List.{List}
@@ -6,10 +8,9 @@ use lib.Dec.{leb}
 use lib.IntN.{ℤ}
 use lib.ListN.{length}
 use Rattle.meaning.specs.Questions.{◌unless◌, ◌orelse◌}
-use Rattle.meaning.specs.Reply.{reply, checked_reply}
+use Rattle.meaning.specs.Reply.{reply, reply_of}
 use Rattle.meaning.specs.Round.{directions_of, round_refusal, RoundLists}
 use Rattle.meaning.specs.Sheet.{sheet_refusal}
-use Rattle.meaning.specs.declared.Checked.{Checked}
 use Rattle.lists.specs.Steps.{as_numbers, lent_numbers}
 use Rattle.round_sheet.proofs.Whole.{sheet_tellable, sheet_told}
 use mir.Syntax.{w64}
@@ -17,10 +18,10 @@ use Rattle.laws.proofs.Integers.{back}
 use Rattle.round_sheet.proofs.round_sheet.Goals as goal
 
 -- what `decode_if` ensures is said of the sheet's refusal
-as-sheet : (loaded : List ℤ) (directions ends : List ℕ) (width : ℤ) (steps₀ words₀ : List ℕ) (store₀ answers₀ : List ℤ) (sheet₀ : List ℕ) (steps₁ words₁ : List ℕ) (store₁ answers₁ : List ℤ) (r : Checked)
-    → (checked_reply r ≡ reply (round_refusal loaded directions ends (lent_numbers steps₀ words₀ store₀) (length answers₀) orelse 7 unless leb 2_048 (length sheet₀)) tt)
+as-sheet : (loaded : List ℤ) (directions ends : List ℕ) (width : ℤ) (steps₀ words₀ : List ℕ) (store₀ answers₀ : List ℤ) (sheet₀ : List ℕ) (steps₁ words₁ : List ℕ) (store₁ answers₁ : List ℤ) (r : Result Unit Refusal)
+    → (reply_of r ≡ reply (round_refusal loaded directions ends (lent_numbers steps₀ words₀ store₀) (length answers₀) orelse 7 unless leb 2_048 (length sheet₀)) tt)
     × RoundLists as_numbers (round_refusal loaded directions ends (lent_numbers steps₀ words₀ store₀) (length answers₀) orelse 7 unless leb 2_048 (length sheet₀)) loaded (directions_of directions ends) width steps₀ steps₁ words₀ words₁ store₀ store₁ answers₀ answers₁
-    → (checked_reply r ≡ reply (sheet_refusal loaded directions ends (lent_numbers steps₀ words₀ store₀) (length answers₀) (length sheet₀)) tt)
+    → (reply_of r ≡ reply (sheet_refusal loaded directions ends (lent_numbers steps₀ words₀ store₀) (length answers₀) (length sheet₀)) tt)
     × RoundLists as_numbers (sheet_refusal loaded directions ends (lent_numbers steps₀ words₀ store₀) (length answers₀) (length sheet₀)) loaded (directions_of directions ends) width steps₀ steps₁ words₀ words₁ store₀ store₁ answers₀ answers₁
 unfolding sheet_refusal
 as-sheet loaded directions ends width steps₀ words₀ store₀ answers₀ sheet₀ steps₁ words₁ store₁ answers₁ r e = e

@@ -1,4 +1,5 @@
 -- The invariant: what was asked has passed, and k directions are decoded.
+use Rattle.std.proofs.lemmas.Result.{err_from_is_err_and}
 use Prim.Native.Nat.{ℕ, ◌<◌}
 use native.Mathlib.Omega.{arith}
 use mathlib.Core.Path.{◌≡◌, refl, sym, ◌∙◌}
@@ -12,15 +13,15 @@ use Rattle.rounds.proofs.decode_if.Goals as goal
 below : {n m : ℕ} → n ≡ m → m < 9_223_372_036_854_775_808 → n < 9_223_372_036_854_775_808
 below e h = omega arith
 
-pub returns-in-Refused-clause-round_lists : goal.returns-in-Refused-clause-round_lists
-returns-in-Refused-clause-round_lists c = (round_refused _ _ _ _ _ _ _ c.args.enough c.args.width c.in-Refused.refusal c.in-Refused.ensures).1
+pub returns-in_err-counts-clause-round_lists : goal.returns-in_err-counts-clause-round_lists
+returns-in_err-counts-clause-round_lists c = (round_refused _ _ _ _ _ _ _ c.args.enough c.args.width _ c.in_err-counts.ensures).1
 
-pub returns-in-Refused-clause-result_value : goal.returns-in-Refused-clause-result_value
-returns-in-Refused-clause-result_value c = (round_refused _ _ _ _ _ _ _ c.args.enough c.args.width c.in-Refused.refusal c.in-Refused.ensures).0
+pub returns-in_err-counts-clause-result_value : goal.returns-in_err-counts-clause-result_value
+returns-in_err-counts-clause-result_value c = let p = err_from_is_err_and c.from_residual.result c.from_residual.ensures.1 in rw (p.1, p.2) (round_refused _ _ _ _ _ _ _ c.args.enough c.args.width _ c.in_err-counts.ensures).0
 
 pub loop-k-init : goal.loop-k-init
 loop-k-init c =
-    let o = c.in-Book.ensures in
+    let o = c.in_ok-counts.ensures in
     (ready _ _ _ _ _ _ _ _ o.0 o.1, going_begins _ _ _ _ _ _ _ _, refl)
 
 pub put_at-swept-requires-clause-all_countable : goal.put_at-swept-requires-clause-all_countable

@@ -1,25 +1,17 @@
--- Those of the directions passed are counted; the measure is how many directions are left.
-use Prim.Native.Nat.{◌+◌}
+-- Those of the directions are counted.
+use mathlib.Core.Path.{◌∙◌}
 use native.Mathlib.Omega.{arith}
-use mathlib.Core.Path.{sym, ap, ◌∙◌}
-use mathlib.Core.Bool.{cond}
-use mathlib.Core.List.{List}
+use borrow.Author.Tests.{tests}
 use lib.Dec.{eqb}
-use Rattle.meaning.specs.Sheet.{Row, count_of}
-use Rattle.sheet.proofs.Rows.{rows_none, count_none, count_next, count_small}
+use Rattle.std.proofs.Common.{rules}
+use Rattle.std.proofs.lemmas.Iterator.{YieldsList-from_range}
+use Rattle.std.proofs.lemmas.Iterator.Consumers.{YieldsList-from_filter, count_from_yields_List}
+use Rattle.sheet.proofs.Rows.{answer_of, counted}
 use Rattle.sheet.proofs.count_of.Goals as goal
 
-pub loop-k-init : goal.loop-k-init
-loop-k-init c = (omega arith, sym (ap (λ (rows : List Row). count_of rows c.args.answer) (rows_none c.args.answers.now) ∙ count_none c.args.answer))
-
-pub counted-found-requires : goal.counted-found-requires
-counted-found-requires c =
-    let l = c.loop-k in
-    omega (arith, l.invariant.1, c.requires.few, count_small c.args.answers.now l.k c.args.answer)
-
-pub loop-k-preserved : goal.loop-k-preserved
-loop-k-preserved c =
-    let l = c.loop-k in
-    let found = l.invariant.1 in
-    let answer = c.answer_at.ensures in
-    (omega arith, c.counted-found.ensures ∙ (λ j. found j + cond (eqb (answer j) c.args.answer) 1 0) ∙ sym (count_next c.args.answers.now l.k c.args.answer))
+pub returns : goal.returns
+returns c =
+    let a = c.args in
+    count_from_yields_List c.filter.result c.count.result c.count.ensures.ran
+    (YieldsList-from_filter _ (λ k. eqb (answer_of a.answers.now k) a.answer) (YieldsList-from_range 0 a.count a.count c.filter.ensures.source (omega arith)) c.filter.ensures.closure (λ x b q k. search (rules, tests)))
+    ∙ counted a.answers.now a.count a.answer

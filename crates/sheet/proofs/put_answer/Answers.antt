@@ -6,11 +6,10 @@ use lib.ListN.{length}
 use Rattle.meaning.specs.Render.{printed_line}
 use Rattle.meaning.specs.Sheet.{count_of}
 use Rattle.decimals.proofs.Laws.{put_is}
-use Rattle.printing.proofs.Numbers.{line_asks}
 use Rattle.sheet.specs.Rows.{rows_in}
 use Rattle.sheet.proofs.Rows.{count_small}
 use Rattle.sheet.proofs.Lengths.{its_line, answer_short}
-use Rattle.sheet.proofs.Numbers.{two_held, two_put}
+use Rattle.sheet.proofs.Numbers.{two_held}
 use borrow.Author.Rules.{rules}
 use Rattle.sheet.proofs.put_answer.Goals as goal
 use Rattle.sheet.proofs.put_answer.Goals.{Start}
@@ -21,17 +20,10 @@ found-small s e = omega (arith, s.requires.fits.few, count_small s.args.answers.
 pub overflow_cast-numbers-2 : goal.overflow_cast-numbers-2
 overflow_cast-numbers-2 c = search (rules, found-small (goal.at.overflow_cast-numbers-2 c).Start c.count_of-found.ensures)
 
-pub put_line-requires-clause-numbers_in_bounds : goal.put_line-requires-clause-numbers_in_bounds
-put_line-requires-clause-numbers_in_bounds c = let n = c.count_of-found in let line = its_line (rows_in c.args.answers.now c.args.count) c.args.answer n.ensures (omega (arith, c.if-found-eq0.false)) in
-    let few = found-small (goal.at.put_line-requires-clause-numbers_in_bounds c).Start n.ensures in
-    (line_asks 69 c.args.at (two_held c.args.answer n.result (omega arith) few) (two_put c.args.answer n.result (omega arith) few)
-    (omega (arith, ap length line, answer_short c.args.answers.now c.args.count c.args.answer c.requires.fits.few c.requires.answer_bound.0))).1
-
-pub put_line-requires-clause-printable : goal.put_line-requires-clause-printable
-put_line-requires-clause-printable c = let n = c.count_of-found in let line = its_line (rows_in c.args.answers.now c.args.count) c.args.answer n.ensures (omega (arith, c.if-found-eq0.false)) in
-    let few = found-small (goal.at.put_line-requires-clause-printable c).Start n.ensures in
-    (line_asks 69 c.args.at {room = length c.args.out.now} (two_held c.args.answer n.result (omega arith) few) (two_put c.args.answer n.result (omega arith) few)
-    (omega (arith, ap length line, answer_short c.args.answers.now c.args.count c.args.answer c.requires.fits.few c.requires.answer_bound.0))).0
+pub put_line-requires : goal.put_line-requires
+put_line-requires c = let n = c.count_of-found in let line = its_line (rows_in c.args.answers.now c.args.count) c.args.answer n.ensures (omega (arith, c.if-found-eq0.false)) in
+    rw (two_held c.args.answer n.result (omega arith) (found-small (goal.at.put_line-requires c).Start n.ensures))
+    (omega (arith, ap length line, answer_short c.args.answers.now c.args.count c.args.answer c.requires.fits.few c.requires.answer_bound.0))
 
 pub returns : goal.returns
 returns c = let n = c.count_of-found in let line = its_line (rows_in c.args.answers.now c.args.count) c.args.answer n.ensures (omega (arith, c.if-found-eq0.false)) in

@@ -22,11 +22,9 @@ summed answers place k count e lt few each =
 
 pub overflow_add-sum-in-loop-k : goal.overflow_add-sum-in-loop-k
 overflow_add-sum-in-loop-k c =
-    fits (summed c.args.answers.now c.args.place c.loop-k.k c.args.count c.loop-k.invariant.1 c.loop-k-test.true c.requires.fits.few c.requires.each) (omega arith)
+    fits (summed c.args.answers.now c.args.place c.loop-k.k c.args.count c.loop-k.invariant c.loop-k-test.true c.requires.fits.few c.requires.each) (omega arith)
 
 pub loop-k-preserved : goal.loop-k-preserved
-loop-k-preserved c = (
-  omega arith,
-  (kept w64 (summed c.args.answers.now c.args.place c.loop-k.k c.args.count c.loop-k.invariant.1 c.loop-k-test.true c.requires.fits.few c.requires.each) (omega arith)).is
-      ∙ sym (sum_more c.args.answers.now c.args.place c.loop-k.k),
-)
+loop-k-preserved c =
+    (kept w64 (summed c.args.answers.now c.args.place c.loop-k.k c.args.count c.loop-k.invariant c.loop-k-test.true c.requires.fits.few c.requires.each) (omega arith)).is
+    ∙ sym (sum_more c.args.answers.now c.args.place c.loop-k.k)

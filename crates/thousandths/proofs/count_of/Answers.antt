@@ -1,11 +1,11 @@
--- The invariant: the count is that of the digits before i.
-use native.Mathlib.Omega.{arith}
-use lib.ListN.{take}
-use Rattle.laws.proofs.Lists.{take_next}
-use Rattle.thousandths.proofs.Places.{digits_++, count_more}
+-- The digits are counted by an iterator.
+use Rattle.std.proofs.Common.{◌∙◌, rules, tests, arith}
+use Rattle.std.proofs.lemmas.Iterator.{YieldsList-from_slice}
+use Rattle.std.proofs.lemmas.Iterator.Consumers.{fold_from_yields_List}
+use Rattle.thousandths.proofs.Places.{with_digit, count_all}
 use Rattle.thousandths.proofs.count_of.Goals as goal
 
-pub loop-i-preserved : goal.loop-i-preserved
-loop-i-preserved c =
+pub returns : goal.returns
+returns c =
     let t = c.args.digits.now in
-    (omega arith, rw (c.with_digit-count.ensures, take_next t c.loop-i.i 0 (omega arith), digits_++ 0 (take c.loop-i.i t)) (count_more _ _ _ c.loop-i.invariant.1))
+    fold_from_yields_List _ with_digit 0 c.fold.result c.fold.ensures.ran (YieldsList-from_slice t c.iter.ensures.rest) (λ a x b q k. search (rules, tests)) ∙ count_all t 0 0 (omega arith)

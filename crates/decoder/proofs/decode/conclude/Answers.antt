@@ -13,13 +13,13 @@ pub pick_best-requires : goal.pick_best-requires
 pick_best-requires c = start_walks _ _ _ c.requires.starting
 
 pub trace-told-requires-clause-ended : goal.trace-told-requires-clause-ended
-trace-told-requires-clause-ended c = let b = c.in-At.ensures.below.0 in
+trace-told-requires-clause-ended c = let b = c.in-Some.ensures.below.0 in
     record { state = _; ends = last_ends _ _ _ c.requires.starting _ b }
 
-pub returns-in-Nothing-clause-concluded : goal.returns-in-Nothing-clause-concluded
-returns-in-Nothing-clause-concluded c = let back : to_z w64 (of_z w64 c.args.beam.width) ≡ c.args.beam.width = search rules in let e = found_is _ _ _ c.requires.starting c.requires.prepared.n_is _ c.pick_best.ensures.l_value c.in-Nothing.is in
+pub returns-in-None-clause-concluded : goal.returns-in-None-clause-concluded
+returns-in-None-clause-concluded c = let back : to_z w64 (of_z w64 c.args.task.now.beam.width) ≡ c.args.task.now.beam.width = search rules in let e = found_is _ _ _ c.requires.starting c.args.task.now.searchable.prepared.n_is _ c.pick_best.ensures.l_value c.in-None.is in
     concluded_by _ _ _ c.requires.starting e _ _ _ (c.refused.ensures ∙ ap refused_by (c.no_answer.ensures ∙ ap no_answer back), refl)
 
-pub returns-in-At-clause-concluded : goal.returns-in-At-clause-concluded
-returns-in-At-clause-concluded c = let b = c.in-At.ensures.below.0 in let e = found_is _ _ _ c.requires.starting c.requires.prepared.n_is _ c.pick_best.ensures.l_value c.in-At.is in
+pub returns-in-Some-clause-concluded : goal.returns-in-Some-clause-concluded
+returns-in-Some-clause-concluded c = let b = c.in-Some.ensures.below.0 in let e = found_is _ _ _ c.requires.starting c.args.task.now.searchable.prepared.n_is _ c.pick_best.ensures.l_value c.in-Some.is in
     concluded_by _ _ _ c.requires.starting e _ _ _ (told_all _ _ _ c.requires.starting (c.trace-told.ensures _ (last_ends _ _ _ c.requires.starting _ b)))

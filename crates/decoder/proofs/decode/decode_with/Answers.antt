@@ -22,10 +22,10 @@ pub list_options-requires-clause-direction_len_bound : goal.list_options-require
 unfolding word_count
 list_options-requires-clause-direction_len_bound c = direction_to _ c.requires.prepared.directed
 
-pub search_for_best-requires-clause-searchable : goal.search_for_best-requires-clause-searchable
-search_for_best-requires-clause-searchable c = let l = room_is c.args.lent.room (length c.args.words.now) c.requires.prepared.n_is c.has_room.ensures ∙ c.if-not-has_room.false in
+pub invariant_of-task : goal.invariant_of-task
+invariant_of-task c =
     let o = c.list_options in
-    made_searchable c.requires.prepared o.ensures (let k = o.auto.options in search rules)
+    record { searchable = made_searchable c.requires.prepared o.ensures (let k = o.auto.options in search rules) }
 
 pub returns : goal.returns
 returns c =

@@ -1,33 +1,21 @@
 -- What is left of the words, added to the row so far, makes the whole row; after j words the sum is within j times triple_bound.
-use Prim.Native.Nat.{◌+◌, ◌-◌}
-use mathlib.Core.Path.{◌≡◌, sym, ◌∙◌}
-use native.Mathlib.Omega.{arith}
-use lib.ListN.{get_or}
-use Rattle.derivation.specs.Model.{word_in}
-use Rattle.derivation.proofs.Rows.{word_is, row_next, row_end, row_within}
+use Rattle.std.proofs.Common.{◌≡◌, ◌+◌, ◌-◌, List, ℤ, pos, get_or, take, drop, sym, ◌∙◌, ap, rules}
+use Rattle.derivation.specs.Model.{word_of, empty_row, with_words}
+use Rattle.derivation.proofs.Rows.{words_are, row_next, row_end, row_within}
 use Rattle.derivation.proofs.model.row_of.Goals as goal
 
-pub loop-k-preserved : goal.loop-k-preserved
-loop-k-preserved c =
-    let l = c.loop-k in
-    let h = c.loop-k-test.true in
-    let j = l.k - c.args.p.target in
-    let here : c.args.p.target + j ≡ l.k = omega arith in
-    let next : l.k + 1 - c.args.p.target ≡ j + 1 = omega arith in (
-      (omega arith, omega arith),
-      (
-        rw (next, c.add_word-s.ensures) (row_within c.args.index.now c.args.t c.requires.model.scores_within l.s _ j l.invariant.1.0),
-        λ e q.
-            let w = q.target_at in
-            let m = w.many_are in
-            let y : word_in c.args.book.now l.k ≡ get_or e.target j 0 = rw here at (word_is w j (omega arith)) in
-            rw (next, c.add_word-s.ensures, c.word_at-y.ensures, y)
-            (sym (row_next c.args.index.now c.args.t l.s e.target j (omega arith)) ∙ l.invariant.1.1 e q),
-      ),
-    )
+pub loop-x-preserved : goal.loop-x-preserved
+loop-x-preserved c =
+    let l = c.loop-x in
+    let a = c.args in
+    let numbers : List ℤ = take (a.p.target + a.p.count - a.p.target) (drop a.p.target a.book.now) in
+    let y : c.word_of.result ≡ word_of (get_or numbers l.x-index (pos 0)) = search rules in
+    rw (c.add_word-row.ensures, y) (record {
+      within = row_within a.index.now a.t c.requires.model.scores_within l.row _ l.x-index l.invariant.within;
+      left = sym (row_next a.index.now a.t l.row numbers l.x-index c.loop-x-test.true) ∙ l.invariant.left;
+    })
 
 pub returns-clause-value : goal.returns-clause-value
-returns-clause-value c = let l = c.loop-k in
-    let f = c.requires.phrased.is.target_at.few in
-    let h = c.loop-k-test.false in
-    λ e q. let m = q.target_at.many_are in sym (row_end c.args.index.now c.args.t l.s e.target (l.k - c.args.p.target) (omega arith)) ∙ l.invariant.1.1 e q
+returns-clause-value c =
+    let a = c.args in
+    λ e q. sym (row_end a.index.now a.t c.loop-x.row _ c.loop-x.x-index c.loop-x-test.false) ∙ c.loop-x.invariant.left ∙ ap (with_words a.index.now a.t (empty_row a.word1 a.word2)) (words_are q.target_at)

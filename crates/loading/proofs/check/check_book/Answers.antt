@@ -3,11 +3,11 @@
 use Rattle.meaning.specs.Book.{book_refusal}
 use mathlib.Core.Path.{ap, ◌∙◌}
 use Rattle.loading.proofs.Replies.{answer_reply}
-use Rattle.meaning.specs.Reply.{checked_reply, check_book}
+use Rattle.meaning.specs.Reply.{reply_of, check_book}
 use Rattle.loading.proofs.check.check_book.Goals as goal
 
 pub returns : goal.returns
 unfolding check_book
 returns c =
     let k = c.load-loaded in
-    ap checked_reply c.reply_of.ensures ∙ answer_reply (book_refusal c.args.book.now) _ _ k.result k.ensures
+    ap reply_of c.reply_of.ensures ∙ answer_reply (book_refusal c.args.book.now) _ _ k.result k.ensures

@@ -5,16 +5,14 @@ use Rattle.book.specs.Survey.{gram_count}
 use Rattle.loading.proofs.Answers.{compared_so, different_so}
 use Rattle.loading.proofs.load.compare.Goals as goal
 
-pub returns-then-refusal-eq6 : goal.returns-then-refusal-eq6
-returns-then-refusal-eq6 c = λ form lines index₀ s w four stored. sym (compared_so w c.requires.tally_in_bounds four stored) ∙ ap (repeat_refusal c.args.index.now) (sym c.gram_count-count.ensures) ∙ sym c.index_all-refusal.ensures.answer ∙ c.if-refusal-eq6.true
-
-pub returns-then-refusal-eq20 : goal.returns-then-refusal-eq20
-returns-then-refusal-eq20 c = λ form lines index₀ s w four stored. sym (compared_so w c.requires.tally_in_bounds four stored) ∙ ap (repeat_refusal c.args.index.now) (sym c.gram_count-count.ensures) ∙ sym c.index_all-refusal.ensures.answer ∙ c.if-refusal-eq20.true
+pub returns-in-Some : goal.returns-in-Some
+returns-in-Some c = λ form lines index₀ s w four stored.
+    sym (compared_so w c.requires.tally_in_bounds four stored) ∙ ap (repeat_refusal c.args.index.now) (sym c.grams-count.ensures) ∙ sym c.in-Some.ensures.answer
 
 pub returns : goal.returns
 returns c = λ form lines index₀ s w four stored.
-    let x = c.index_all-refusal.ensures in
-    let n = c.gram_count-count.ensures in
-    let i : Indexed c.index_all-refusal.new.index (gram_count c.args.tally.now) = rw n at x.indexed in
-    rw (n, c.shorter_count-shorter.ensures)
-    (different_so w c.requires.tally_in_bounds four stored x.kept c.index_all-refusal.result (x.answer ∙ ap (repeat_refusal c.args.index.now) n) c.if-refusal-eq6.false c.if-refusal-eq20.false i)
+    let x = c.in_default.ensures in
+    let n = c.grams-count.ensures in
+    let i : Indexed c.index_all.new.index (gram_count c.args.tally.now) = rw n at x.indexed in
+    rw (n, c.shorter-shorter.ensures)
+    (different_so w c.requires.tally_in_bounds four stored x.kept (sym (x.answer ∙ ap (repeat_refusal c.args.index.now) n)) i)

@@ -1,10 +1,13 @@
--- The survey's number of a refusal is 3, 4 or 5, or 0 for none; then 21 is asked.
-use native.Mathlib.Omega.{arith}
-use Rattle.loading.proofs.Answers.{judged_none, judged_stored}
+-- What the survey refuses by 3, 4 or 5 is refused; then 21 is asked.
+use mathlib.Core.Path.{sym}
+use Rattle.loading.proofs.Answers.{judged_first, judged_stored}
 use Rattle.loading.proofs.load.judge.Goals as goal
 
+pub returns-in-Some : goal.returns-in-Some
+returns-in-Some c = judged_first c.in-Some.refusal _ c.in-Some.ensures
+
 pub returns-then-not-counted : goal.returns-then-not-counted
-returns-then-not-counted c = judged_stored (judged_none c.args.s c.args.tally.now c.refusal_of-k.result c.refusal_of-k.ensures c.if-k-eq3.false c.if-k-eq4.false (λ e. omega arith)) c.if-not-counted.true
+returns-then-not-counted c = judged_stored (sym c.in_default.ensures) c.if-not-counted.true
 
 pub returns : goal.returns
-returns c = judged_stored (judged_none c.args.s c.args.tally.now c.refusal_of-k.result c.refusal_of-k.ensures c.if-k-eq3.false c.if-k-eq4.false (λ e. omega arith)) c.if-not-counted.false
+returns c = judged_stored (sym c.in_default.ensures) c.if-not-counted.false

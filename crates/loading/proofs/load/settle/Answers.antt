@@ -2,5 +2,5 @@
 use Rattle.book.proofs.Counts.{broken_refusal}
 use Rattle.loading.proofs.load.settle.Goals as goal
 
-pub returns-in-Broken : goal.returns-in-Broken
-returns-in-Broken c = λ form lines index₀ w counts. broken_refusal form lines (rw c.in-Broken.is at w)
+pub returns-in_default : goal.returns-in_default
+returns-in_default c = λ form lines index₀ w counts. broken_refusal form lines (rw c.in_default.is at w)

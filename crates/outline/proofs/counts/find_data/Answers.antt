@@ -1,31 +1,21 @@
--- No line passed is `\data\` (Looking); the measure is what is left of the text.
-use mathlib.Core.Path.{refl, sym, ◌∙◌}
-use native.Mathlib.Omega.{arith}
-use lib.ListN.{length}
-use Rattle.outline.proofs.Noted.{read_fields}
-use Rattle.outline.proofs.Found.{none_behind, looking_start, looking_on, found_none, found_here}
+-- No line passed is `\data\` (Looking).
+use mathlib.Core.Path.{sym, ◌∙◌}
+use Rattle.outline.proofs.Noted.{none_read, read_fields}
+use Rattle.outline.proofs.Found.{looking_start, looking_on, found_none, found_here}
 use Rattle.outline.proofs.counts.find_data.Goals as goal
 
-pub loop-at-init : goal.loop-at-init
-loop-at-init c = (refl, looking_start c.args.text.now)
-
-pub returns-then-line-eq0-clause-data_found : goal.returns-then-line-eq0-clause-data_found
-returns-then-line-eq0-clause-data_found c = let l = c.loop-at.invariant in
-    let text = c.args.text.now in
-    found_none l.1 (omega arith) (c.read_line-line.ensures.line_read.none c.if-line-eq0.true) (none_behind text {at = length text} (omega arith))
+pub loop-line-init : goal.loop-line-init
+loop-line-init c = looking_start c.args.text.now
 
 pub returns-then-is_mark-clause-data_found : goal.returns-then-is_mark-clause-data_found
-returns-then-is_mark-clause-data_found c = let i = c.loop-at.invariant in
-    let r = c.read_line-line.ensures.line_read in
-    found_here i.1 r (omega arith) (sym (c.is_mark.ensures r.fields (read_fields r)) ∙ c.if-is_mark.true)
+returns-then-is_mark-clause-data_found c =
+    let r = c.in-Some.ensures.line_read in
+    found_here c.loop-line.invariant r (sym (c.is_mark.ensures r.fields (read_fields r)) ∙ c.if-is_mark.true)
 
-pub loop-at-preserved : goal.loop-at-preserved
-loop-at-preserved c =
-    let i = c.loop-at.invariant in
-    let r = c.read_line-line.ensures.line_read in
-    (c.read_line-line.ensures.places_len_unchanged ∙ i.0, looking_on i.1 r (omega arith) (sym (c.is_mark.ensures r.fields (read_fields r)) ∙ c.if-is_mark.false))
+pub loop-line-preserved : goal.loop-line-preserved
+loop-line-preserved c =
+    let r = c.in-Some.ensures.line_read in
+    looking_on c.loop-line.invariant r (sym (c.is_mark.ensures r.fields (read_fields r)) ∙ c.if-is_mark.false)
 
 pub returns-clause-data_found : goal.returns-clause-data_found
-returns-clause-data_found c = let l = c.loop-at.invariant in
-    let none = none_behind c.args.text.now c.loop-at-test.false in
-    found_none l.1 l.1.within none none
+returns-clause-data_found c = found_none c.loop-line.invariant (none_read c.args.text.now c.loop-line.at c.read_line.new.places c.read_line.result c.in_default.not-Some c.read_line.ensures.line_read)

@@ -14,7 +14,7 @@ use Rattle.tokens.specs.Fields.{FieldsAt}
 use Rattle.outline.proofs.Noted.{field_is}
 use Rattle.outline.proofs.Shapes.{too_few, gram_line_is, weight_missing, weight_is, too_many}
 use Rattle.outline.proofs.lines.is_gram_line.Goals as goal
-use Rattle.outline.proofs.lines.is_gram_line.Goals.{Else-not-is_value_at}
+use Rattle.outline.proofs.lines.is_gram_line.Goals.{Else-not-is_value_at, then-count-order-via-then-count-order, then-count-order-via-else-count-order+then-not-is_value_at}
 
 -- a line that is long enough, by whether its first field is a value
 by_value : {text places : List ℕ} {count : ℕ} {fields : List (List ℕ)} {b : Bool} (top n : ℕ) → FieldsAt text places count fields → n < count → b ≡ is_value (field_at text places 0)
@@ -23,32 +23,35 @@ by_value {fields = fields} top n f l e = gram_line_is top n fields (omega (arith
 
 -- the first field is a value
 is-first : (c : Else-not-is_value_at) → true ≡ is_value (field_at c.args.text.now c.args.places.now 0)
-is-first c = sym (c.if-not-is_value_at.false) ∙ c.is_value_at.ensures
+is-first c = sym c.if-not-is_value_at.false ∙ c.is_value_at.ensures
 
 pub returns-then-count-order : goal.returns-then-count-order
-returns-then-count-order c fields f = let a = c.args in sym (too_few a.top a.order fields (omega (arith, f.long)))
-
-pub returns-then-not-is_value_at : goal.returns-then-not-is_value_at
-returns-then-not-is_value_at c fields f = let a = c.args in sym (by_value a.top a.order f (omega arith) (sym (c.if-not-is_value_at.true) ∙ c.is_value_at.ensures))
-
-pub returns-then-count-order-2 : goal.returns-then-count-order-2
-returns-then-count-order-2 c fields f =
+returns-then-count-order c fields f =
     let a = c.args in
-    sym (by_value a.top a.order f (omega arith) (is-first (goal.at.returns-then-count-order-2 c).Else-not-is_value_at) ∙ weight_missing _ a.order fields (omega (arith, f.long)))
+    sym (elim c.then-count-order.branch [
+      | then-count-order-via-then-count-order w ↦ too_few a.top a.order fields (omega (arith, f.long, w.if-count-order.true))
+      | then-count-order-via-else-count-order+then-not-is_value_at w ↦ by_value a.top a.order f (omega (arith, w.if-count-order.false)) (sym w.if-not-is_value_at.true ∙ w.is_value_at.ensures)
+    ])
 
-pub returns-then-order-count : goal.returns-then-order-count
-returns-then-order-count c fields f =
+pub returns-in-1 : goal.returns-in-1
+returns-in-1 c fields f =
     let a = c.args in
-    sym (by_value a.top a.order f (omega arith) (is-first (goal.at.returns-then-order-count c).Else-not-is_value_at) ∙ too_many _ a.order fields (omega (arith, f.long)))
+    sym (by_value a.top a.order f (omega arith) (is-first (goal.at.returns-in-1 c).Else-not-is_value_at) ∙ weight_missing _ a.order fields (omega (arith, f.long)))
 
-pub returns-then-top-order : goal.returns-then-top-order
-returns-then-top-order c fields f =
-    let a = c.args in
-    sym (by_value a.top a.order f (omega arith) (is-first (goal.at.returns-then-top-order c).Else-not-is_value_at) ∙ weight_is _ a.order fields (omega (arith, f.long)) ∙ rw (le-ltb a.order a.top (omega arith)))
-
-pub returns : goal.returns
-returns c fields f =
+pub returns-then-order-top : goal.returns-then-order-top
+returns-then-order-top c fields f =
     let a = c.args in
     let last = field_is (a.order + 1) (omega arith) (omega arith) f in
-    c.is_value_at-2.ensures
-    ∙ sym (by_value a.top a.order f (omega arith) (is-first (goal.at.returns c).Else-not-is_value_at) ∙ weight_is _ a.order fields (omega (arith, f.long)) ∙ rw (lt-ltb a.order a.top (omega arith), ← last))
+    c.is_value_at-then-order-top.ensures
+    ∙ sym (by_value a.top a.order f (omega arith) (is-first (goal.at.returns-then-order-top c).Else-not-is_value_at) ∙ weight_is _ a.order fields (omega (arith, f.long)) ∙ rw (lt-ltb a.order a.top (omega arith), ← last))
+
+pub returns-else-order-top : goal.returns-else-order-top
+returns-else-order-top c fields f =
+    let a = c.args in
+    le-ltb a.order a.top (omega arith)
+    ∙ sym (by_value a.top a.order f (omega arith) (is-first (goal.at.returns-else-order-top c).Else-not-is_value_at) ∙ weight_is _ a.order fields (omega (arith, f.long)) ∙ rw (le-ltb a.order a.top (omega arith)))
+
+pub returns-in_default : goal.returns-in_default
+returns-in_default c fields f =
+    let a = c.args in
+    sym (by_value a.top a.order f (omega arith) (is-first (goal.at.returns-in_default c).Else-not-is_value_at) ∙ too_many _ a.order fields (omega (arith, f.long)))

@@ -1,6 +1,6 @@
 -- The line has to be that of an n-gram; if it lists `<unk>` alone, none before it may.
 use Prim.Native.Nat.{ℕ}
-use mathlib.Core.Path.{◌≡◌, sym, ◌∙◌}
+use mathlib.Core.Path.{◌≡◌, refl, sym, ◌∙◌}
 use mathlib.Core.Bool.{true}
 use mathlib.Core.List.{List}
 use native.Mathlib.Omega.{arith}
@@ -28,14 +28,14 @@ is_unknown-requires-clause-order_bound c = let r = c.requires.fields_read in
 pub returns-then-not-is_unknown : goal.returns-then-not-is_unknown
 returns-then-not-is_unknown c counts fields lines e p f =
     let u = sym (c.is_unknown.ensures fields f) ∙ c.if-not-is_unknown.true in
-    gram_passed p fields lines c.requires.le_left.0 (is_gram_lem (goal.at.returns-then-not-is_unknown c).Else-not-is_gram_line counts fields e f) (rw u (omega arith)) p.once
+    gram_passed p fields lines c.requires.le_left.0 (is_gram_lem (goal.at.returns-then-not-is_unknown c).Else-not-is_gram_line counts fields e f) (rw u (omega arith))
 
-pub returns-then-cursor-eq1 : goal.returns-then-cursor-eq1
-returns-then-cursor-eq1 c counts fields lines e p f =
+pub returns-then-cursor : goal.returns-then-cursor
+returns-then-cursor c counts fields lines e p f =
     let u = sym (c.if-not-is_unknown.false) ∙ c.is_unknown.ensures fields f in
-    gram_twice p fields lines c.requires.le_left.0 (is_gram_lem (goal.at.returns-then-cursor-eq1 c).Else-not-is_gram_line counts fields e f) u (omega arith)
+    gram_twice p fields lines c.requires.le_left.0 (is_gram_lem (goal.at.returns-then-cursor c).Else-not-is_gram_line counts fields e f) u c.if-cursor.true
 
 pub returns : goal.returns
 returns c counts fields lines e p f =
     let u = sym (c.if-not-is_unknown.false) ∙ c.is_unknown.ensures fields f in
-    gram_passed p fields lines c.requires.le_left.0 (is_gram_lem (goal.at.returns c).Else-not-is_gram_line counts fields e f) (rw (sym u) (omega arith)) (omega arith)
+    gram_passed p fields lines c.requires.le_left.0 (is_gram_lem (goal.at.returns c).Else-not-is_gram_line counts fields e f) (rw (sym u, c.if-cursor.false) refl)

@@ -2,7 +2,6 @@
 use mathlib.Core.Path.{◌≡◌}
 use mathlib.Core.List.{List}
 use mathlib.Core.Option.{none}
-use Prim.Native.Nat.{◌-◌, ◌≤◌}
 use lib.ListN.{drop}
 use Rattle.search_theory.specs.Loops.{pick}
 use Rattle.meaning.specs.State.{Hyp, words_covered, is_better}
@@ -12,8 +11,5 @@ use Rattle.states.specs.Answer.{Below, no_close, picked}
 use Rattle.states.proofs.best.pick_best.Given as goal
 
 abbrev pub invariant-loop-k : goal.invariant-loop-k
-invariant-loop-k l = (l.k ≤ l.count) × (Below l.n l.store l.k l.best × ((hs : List Hyp) → Walked l.store hs → Lists l.n l.store l.count hs
-    → pick words_covered l.n no_close is_better (picked hs l.best) (drop l.k hs) ≡ pick words_covered l.n no_close is_better none hs))
-
-abbrev pub decreases-loop-k : goal.decreases-loop-k
-decreases-loop-k l = l.count - l.k
+invariant-loop-k l = Below l.n l.store l.k l.best × ((hs : List Hyp) → Walked l.store hs → Lists l.n l.store l.count hs
+    → pick words_covered l.n no_close is_better (picked hs l.best) (drop l.k hs) ≡ pick words_covered l.n no_close is_better none hs)

@@ -2,8 +2,8 @@
 use Rattle.store.specs.Store.{Way}
 use Rattle.store.proofs.index.find_equal.Given as goal
 
-abbrev pub invariant-loop-at : goal.invariant-loop-at
-invariant-loop-at l = Way l.store l.count l.x l.at
+abbrev pub invariant-loop-k : goal.invariant-loop-k
+invariant-loop-k l = Way l.store l.count l.x l.at
 
-abbrev pub decreases-loop-at : goal.decreases-loop-at
-decreases-loop-at l = l.at
+abbrev pub decreases-loop-k : goal.decreases-loop-k
+decreases-loop-k l = l.at

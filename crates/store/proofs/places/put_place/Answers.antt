@@ -1,4 +1,5 @@
 -- The six writes are two runs, with the link between them; the fields of a state fit their widths, so division finds them again.
+use Prim.Native.Nat.{ℕ, ◌+◌, ◌*◌}
 use native.Mathlib.Omega.{arith}
 use mathlib.Core.Path.{ap, ◌∙◌}
 use lib.IntN.{pos}
@@ -21,7 +22,7 @@ returns-clause-put c = let x = c.args.x in
     put_all c.args.store.now c.args.k c.requires.k_in_bounds _ _ _ _ _ _ x z y
     (back_pos w64 _ _ (c.int.ensures ∙ ap pos c.words_of.ensures.0) (omega (arith, z.word1_fits, z.word2_fits)))
     (back_pos w64 _ _ c.int-2.ensures (omega (arith, z.covered_fits)))
-    (back_pos w64 _ _ c.int-3.ensures (omega (arith, z.r_fits, y.size_fits)))
+    (back_pos w64 _ _ (c.int-3.ensures ∙ ap (λ (m : ℕ). pos (m * 64 + x.size)) c.from.ensures) (omega (arith, z.r_fits, y.size_fits)))
     (search rules)
     (back_pos w64 _ _ c.int-4.ensures y.parent_fits)
     (back_pos w64 _ _ c.int-5.ensures y.step_fits)

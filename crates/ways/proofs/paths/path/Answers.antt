@@ -1,8 +1,7 @@
 -- The steps are written from the last to the first: each turn writes the number of the place's step and goes to its parent, whose steps are the ones before.
 use native.Mathlib.Omega.{arith}
-use mathlib.Core.Path.{◌∙◌}
 use Prim.Native.Nat.{◌≤◌}
-use lib.ListN.{length, length-set}
+use lib.ListN.{length}
 use Rattle.ways.proofs.Back.{back_goes}
 use Rattle.ways.proofs.paths.path.Goals as goal
 use Rattle.ways.proofs.paths.path.Goals.{After-place_at-x}
@@ -11,14 +10,9 @@ use Rattle.ways.proofs.paths.path.Goals.{After-place_at-x}
 room : (c : After-place_at-x) → c.depth-d.result ≤ length c.loop-left.out
 room c =
     let q = c.requires.leads in
-    omega (arith, c.depth-d.ensures q.list q.chains q.inside, q.short, c.loop-left.invariant.1.0, c.requires.in_bounds)
+    omega (arith, c.depth-d.ensures q.list q.chains q.inside, q.short, c.requires.in_bounds)
 
 pub loop-left-preserved : goal.loop-left-preserved
 loop-left-preserved c =
-    let p = c.loop-left in (
-      omega arith,
-      (
-        length-set p.out _ _ ∙ p.invariant.1.0,
-        λ l g h. back_goes g _ _ p.out p.at p.left c.place_at-x.result c.loop-left-test.true p.invariant.0 (room (goal.at.loop-left-preserved c).After-place_at-x) c.place_at-x.ensures (p.invariant.1.1 l g h),
-      ),
-    )
+    let p = c.loop-left in
+    λ l g h. back_goes g _ _ p.out p.at p.left c.place_at-x.result c.loop-left-test.true p.auto.left (room (goal.at.loop-left-preserved c).After-place_at-x) c.place_at-x.ensures (p.invariant l g h)

@@ -1,6 +1,0 @@
--- Each number is printed in turn; the measure is how many are left.
-use Rattle.std.proofs.Common.{◌-◌, length}
-use Rattle.case_reply.proofs.say.row.Given as goal
-
-abbrev pub decreases-loop-i : goal.decreases-loop-i
-decreases-loop-i g l = length l.numbers - l.i
