@@ -55,7 +55,7 @@ pub fn with_line(acc: Survey, line: &[i32]) -> Survey
 // How many lines there are of each kind: a number for each row of the table of kinds and, as number 0, one for what is of no kind.
 #[derive(Drop)]
 pub struct Tally {
-    counts: [usize; lines::KINDS + 1],
+    pub counts: [usize; lines::KINDS + 1],
 }
 
 impl Model for Tally {

@@ -1,5 +1,6 @@
 -- Words: the bucket of one, and that the latest line that is the word and the first of its spelling is the first line that is the word.
 use Rattle.std.specs.List.{fold}
+use Rattle.std.proofs.Common.{Option, Some, None, unwrap_or}
 use Prim.Native.Nat.{ℕ, zero, suc, ◌+◌, ◌*◌, ◌%◌, ◌<◌, ◌≤◌}
 use mathlib.Core.Path.{◌≡◌, refl, sym, ap, ◌∙◌}
 use mathlib.Core.Bool.{true, cond, and-false}
@@ -16,7 +17,7 @@ use Rattle.laws.proofs.Tests.{by_test, both}
 use Rattle.arpa.specs.Lines.{eq_bytes}
 use Rattle.arpa.specs.Words.{spellings, first_from, spelled}
 use Rattle.spelling.specs.Lines.{line_at}
-use Rattle.spelling.specs.Index.{bucket_count, repeats, hash_from, bucket_of, spelled_before, is_first, bucket_at, spells}
+use Rattle.spelling.specs.Index.{bucket_count, repeats, hash_from, bucket_of, spelled_before, is_first, bucket_at, spells, NumberIs}
 
 -- ---- the bucket: a byte more, as code's arithmetic of 32 bits has it, and all bytes
 
@@ -100,3 +101,9 @@ module _ (list : List ℕ) where
   pub bucket_repeats : (k : ℕ) → (spelled_before list k (line_at list k) ≡ 0 → ⊥) → repeats ≡ bucket_at list k
   unfolding bucket_at is_first
   bucket_repeats k d = rw (ne_eqb (spelled_before list k (line_at list k)) 0 d)
+
+-- ---- the number that code has for it, 0 for none
+
+pub or_zero : (n : ℕ) (r : Option ℕ) → NumberIs n r → unwrap_or r 0 ≡ n
+or_zero n None e = sym e
+or_zero n (Some k) e = e.1

@@ -146,14 +146,34 @@ fn index_lines(list: &[u8], index: &mut [u16], starts: &[usize], count: usize)
 
 // ---- the word list
 
+// Indexes the lines of a word list; how many there are, at most 65,534.
+pub fn index_words(list: &[u8], index: &mut [u16], starts: &mut [usize]) -> usize
+    requires index_size_in_bounds { index_size ≤ length index.old }
+    requires starts_size_in_bounds { starts_size ≤ length starts.old }
+    ensures { Spelling list.now index.new starts.new result }
+{
+    let lines = find_lines(list, starts);
+    index_lines(list, index, starts, lines);
+    lines
+}
+
+// The number of a word by the word list, 0 where it is not in it.
+pub fn find_word(list: &[u8], index: &[u16], starts: &[usize], count: usize, word: &[u8]) -> usize
+    requires { Spelling list.now index.now starts.now count }
+    ensures { result ≡ spelled list.now word.now }
+{
+    let h = bucket(word);
+    find(list, index, starts, count, word, h).unwrap_or(0)
+}
+
 // A word list whose lines are indexed: its bytes, the index, where the lines start, and how many there are, at most 65,534.
 #[derive(Clone, Copy)]
 pub struct WordList<'a> {
-    list: &'a [u8],
-    index: &'a [u16],
-    starts: &'a [usize],
-    count: usize,
-    ghost spelling: { Spelling list.now index.now starts.now count },
+    pub list: &'a [u8],
+    pub index: &'a [u16],
+    pub starts: &'a [usize],
+    pub count: usize,
+    pub ghost spelling: { Spelling list.now index.now starts.now count },
 }
 
 impl<'a> WordList<'a> {
@@ -163,8 +183,7 @@ impl<'a> WordList<'a> {
         requires starts_size_in_bounds { starts_size ≤ length starts.old }
         ensures { result.list.now ≡ list.now }
     {
-        let count = find_lines(list, starts);
-        index_lines(list, index, starts, count);
+        let count = index_words(list, index, starts);
         WordList {
             list,
             index,

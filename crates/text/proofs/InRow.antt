@@ -1,128 +1,77 @@
--- A line of a text read by itself: the walk over its bytes up to the first byte 10 is the walk over the text, cut there.
+-- A line read a field at a time: the invariant of that loop, a field more, the line's last field, and a line that is not as it should be.
 use mathlib.Core.Path.{◌≡◌, refl, sym, ap, ◌∙◌}
 use mathlib.Core.Bool.{Bool, true, false, cond}
-use mathlib.Core.Logic.{◌⊎◌, inl, inr, ⊎_elim}
-use borrow.Author.Tests.{eqb-true, ltb-true, ltb-false}
 use mathlib.Core.List.{List, [], ◌∷◌, ◌++◌}
-use Prim.Native.Nat.{ℕ, zero, suc, ◌+◌, ◌*◌, ◌-◌, ◌≤◌, ◌<◌}
+use Prim.Native.Nat.{ℕ, ◌+◌, ◌-◌, ◌≤◌, ◌<◌}
 use native.Mathlib.Omega.{arith}
 use native.Mathlib.Numerals.{add-one}
-use lib.Dec.{eqb}
 use lib.IntN.{ℤ}
-use lib.ListN.{length, take, drop}
-use Rattle.std.proofs.Common.{Some, None, ltb}
-use Rattle.std.specs.List.{position, position_or_len}
+use lib.ListN.{length, take, drop, set, drop_of_length-le}
+use Rattle.std.proofs.Common.{Some, None}
 use Rattle.laws.proofs.Tests.{by_test, clash}
-use Rattle.fields.specs.Scan.{Scan, Line, Kind, Field, Minus, Digits, Broken, after_letter, more_digits, next, run, at_line, scanned, emit, emit_line}
-use Rattle.fields.specs.Fields.{line_length}
-use Rattle.text.specs.Walk.{text_numbers}
+use Rattle.fields.specs.Scan.{Scan, Line, Field, next, run, at_line, scanned, emit, emit_line}
+use Rattle.fields.specs.Fields.{line_length, start, PieceRead}
+use Rattle.fields.specs.declared.Piece.{Piece}
+use Rattle.text.specs.Walk.{text_numbers, RowRead}
 use Rattle.fields.proofs.Cut.{Sort, sort}
-use Rattle.fields.proofs.Form.{broken}
+use Rattle.meaning.proofs.Filled.{filled_length}
+use Rattle.text.proofs.Row.{Writing, write_start, write_put, write_count, write_end}
 use Rattle.text.proofs.Numbers.{book_numbers}
 use Rattle.text.proofs.Lines.{At, next_line, loaded_next}
-use Rattle.meaning.specs.Numerals.{is_digit}
-use Rattle.meaning.specs.Book.{text_lines, kind_of_byte}
+use Rattle.meaning.specs.Book.{text_lines}
 
--- ════ the first byte 10
+-- the line from `at` on was read up to `end`, where a field starts
+pub record InRow (t : List ℕ) (at : ℕ) (old row : List ℤ) (line : Bool) (count end : ℕ) : Type 0 where
+  pub ends : at_line (run true (start line) (drop end t)) ≡ at_line (run true Line (drop at t))
+  pub written : Writing old row count (emit_line true (start line) (drop end t)) (emit_line true Line (drop at t))
+  pub long : end + line_length (drop end t) ≡ at + line_length (drop at t)
+  pub few : count ≤ end
+  pub within : end ≤ length t
+  pub first : line ≡ true → end < length t
 
-abbrev pub is_newline : ℕ → Bool
-is_newline b = eqb b 10
+pub row_start : (t : List ℕ) (at : ℕ) (old : List ℤ) → at < length t → InRow t at old old true 0 at
+row_start t at old h = record { ends = refl; written = write_start old _; long = refl; few = omega arith; within = omega arith; first = λ e. h }
 
--- its place, and the line's length
-long_is : (t : List ℕ) → position_or_len is_newline t < length t → line_length t ≡ position_or_len is_newline t + 1
-long_is [] h = absurd (omega arith)
-long_is (b ∷ bs) h = by_test (is_newline b) (λ e. rw e) (λ e. rw e (let i = long_is bs (let k = rw e at h in omega arith) in omega arith))
+-- at the text's end a line ends only where none was begun
+text_end : (line : Bool) (t : List ℕ) (end : ℕ) → length t ≤ end → at_line (run true (start line) (drop end t)) ≡ line
+text_end true t end h = rw (drop_of_length-le t h) refl
+text_end false t end h = rw (drop_of_length-le t h) refl
 
-pub place_is : (t : List ℕ) (i : ℕ) → position is_newline t ≡ Some i → (position_or_len is_newline t < length t) × (line_length t ≡ i + 1) × (i < length t)
-place_is t i e =
-    by_test (ltb (position_or_len is_newline t) (length t))
-    (λ q. let h = ltb-true _ _ q in let p : position_or_len is_newline t ≡ i = (let r = rw q at e in cc) in (h, rw (← p) (long_is t h), omega arith))
-    (λ q. let r = rw q at e in absurd (cc))
+module _ {t : List ℕ} {at : ℕ} {old row : List ℤ} {line : Bool} {count end : ℕ} (w : InRow t at old row line count end) where
+  pub row_kept : length row ≡ length old
+  row_kept = ap length w.written.holds ∙ filled_length w.written.new old
 
-pub no_place : (t : List ℕ) → position is_newline t ≡ None → length t ≤ position_or_len is_newline t
-no_place t e =
-    by_test (ltb (position_or_len is_newline t) (length t))
-    (λ q. let r = rw q at e in absurd (cc))
-    (λ q. ltb-false _ _ q)
+  -- a field more, and the number that it puts
+  module _ (r : Piece) (f : PieceRead true (start line) t end r) where
+    put_row : Writing old (set row count r.number) (count + 1) (cond r.last [] (emit_line true Field (drop r.end t))) (emit_line true Line (drop at t))
+    put_row = write_put (rw f.row at w.written)
 
--- ════ the state there
+    pub row_more : r.last ≡ false → InRow t at old (set row count r.number) false (count + 1) r.end
+    row_more l = record {
+      ends = sym (f.ends ∙ ap (λ (x : Bool). at_line (run true (start x) (drop r.end t))) l) ∙ w.ends;
+      written = rw l at put_row;
+      long = sym (ap (λ (x : Bool). r.end + cond x 0 (line_length (drop r.end t))) l) ∙ sym f.long ∙ w.long;
+      few = omega (arith, f.later, w.few);
+      within = f.within;
+      first = λ e. clash e refl;
+    }
 
--- a byte that is not 10 ends no line
-choose : (x : Bool) (s s' : Scan) → at_line s ≡ false → at_line s' ≡ false → at_line (cond x s s') ≡ false
-choose true s s' e f = e
-choose false s s' e f = f
+    pub row_last : r.last ≡ true → RowRead t at old (set row count r.number) (Some (record { count = count + 1; end = r.end }))
+    row_last l = let p = rw l at put_row in record {
+      ends = sym w.ends ∙ f.ends ∙ ap (λ (x : Bool). at_line (run true (start x) (drop r.end t))) l;
+      counted = write_count p;
+      holds = write_end p;
+      long = let q : r.end + 0 ≡ end + line_length (drop end t) = sym (ap (λ (x : Bool). r.end + cond x 0 (line_length (drop r.end t))) l) ∙ sym f.long in omega (arith, w.long);
+      within = f.within;
+    }
 
-off_line : (book : Bool) (s : Scan) (b : ℕ) → is_newline b ≡ false → at_line (next book s b) ≡ false
-off_line book Line b e = choose book (after_letter (kind_of_byte b)) Broken (by (kind_of_byte b)) refl
-  where
-    by : (k : ℕ) → at_line (after_letter k) ≡ false
-    by zero = refl
-    by (suc k) = refl
-off_line book (Kind k) b e = choose (eqb b 44) Field Broken refl refl
-off_line book Field b e = choose (eqb b 45) Minus _ refl (choose (is_digit b) (Digits false (b - 48)) Broken refl refl)
-off_line book Minus b e = choose (eqb b 48) Broken _ refl (choose (is_digit b) (Digits true (b - 48)) Broken refl refl)
-off_line book (Digits m v) b e = choose (is_digit b) _ _ (choose (more_digits v) (Digits m (v * 10 + (b - 48))) Broken refl refl) (choose (eqb b 44) Field _ refl (rw e))
-off_line book Broken b e = refl
+  -- the line is not as it should be
+  pub row_bad : at_line (run true (start line) (drop end t)) ≡ false → RowRead t at old row None
+  row_bad e = sym w.ends ∙ e
 
-no_newline : (book : Bool) (s : Scan) (t : List ℕ) → length t ≤ position_or_len is_newline t → at_line s ≡ false → at_line (run book s t) ≡ false
-no_newline book s [] h e = e
-no_newline book s (b ∷ bs) h e = by_test (is_newline b) (λ q. absurd (let k = rw q at h in omega arith)) (λ q. no_newline book (next book s b) bs (let k = rw q at h in omega arith) (off_line book s b q))
-
--- the byte 10 ends a line, or breaks the text
-abbrev Ended : Scan → Type 0
-Ended s = (s ≡ Line) ⊎ (s ≡ Broken)
-
-at_ten : (book : Bool) (s : Scan) → Ended (next book s 10)
-unfolding kind_of_byte
-at_ten true Line = inr refl
-at_ten false Line = inr refl
-at_ten book (Kind k) = inr refl
-at_ten book Field = inr refl
-at_ten book Minus = inr refl
-at_ten book (Digits m v) = inl refl
-at_ten book Broken = inr refl
-
-line_ended : (book : Bool) (s : Scan) (t : List ℕ) → position_or_len is_newline t < length t → Ended (run book s (take (line_length t) t))
-line_ended book s [] h = absurd (omega arith)
-line_ended book s (b ∷ bs) h =
-    by_test (is_newline b) (λ e. rw (eqb-true b 10 e) (at_ten book s))
-    (λ e. rw (e, add-one) (line_ended book (next book s b) bs (let k = rw e at h in omega arith)))
-
--- a text cut in two
-run_parts : (book : Bool) (s : Scan) (n : ℕ) (t : List ℕ) → run book s t ≡ run book (run book s (take n t)) (drop n t)
-run_parts book s zero t = refl
-run_parts book s (suc n) [] = refl
-run_parts book s (suc n) (b ∷ bs) = run_parts book (next book s b) n bs
-
-module _ (t : List ℕ) where
-  -- no byte 10 follows
-  pub row_none : 0 < length t → length t ≤ position_or_len is_newline t → at_line (run true Line t) ≡ false
-  row_none h n = by t h n
-    where
-      by : (t : List ℕ) → 0 < length t → length t ≤ position_or_len is_newline t → at_line (run true Line t) ≡ false
-      by [] h n = absurd (omega arith)
-      by (b ∷ bs) h n = by_test (is_newline b) (λ q. absurd (let k = rw q at n in omega arith)) (λ q. no_newline true (next true Line b) bs (let k = rw q at n in omega arith) (off_line true Line b q))
-
-  module _ (h : position_or_len is_newline t < length t) where
-    -- a line that is not as it should be
-    pub row_bad : at_line (run true Line (take (line_length t) t)) ≡ false → at_line (run true Line t) ≡ false
-    row_bad e =
-        ap at_line (run_parts true Line (line_length t) t)
-        ∙ ⊎_elim
-        (λ q. clash (ap at_line q) e)
-        (λ q. rw q (broken true (drop (line_length t) t)))
-        (line_ended true Line t h)
-
-    -- a line that is: behind it the next one begins
-    pub row_good : at_line (run true Line (take (line_length t) t)) ≡ true → at_line (run true Line t) ≡ at_line (run true Line (drop (line_length t) t))
-    row_good e =
-        ap at_line (run_parts true Line (line_length t) t)
-        ∙ ⊎_elim
-        (λ q. rw q)
-        (λ q. clash e (ap at_line q))
-        (line_ended true Line t h)
-
--- ════ its numbers
+  -- the text ends within the line
+  pub row_cut : length t ≤ end → RowRead t at old row None
+  row_cut h = row_bad (text_end line t end h ∙ by_test line (λ e. absurd (let x = w.first e in omega arith)) (λ e. e))
 
 -- the numbers of a line are those that its marks end
 pub emit_line_lem : (book : Bool) (s : Scan) (t : List ℕ) → emit_line book s t ≡ emit book s (take (line_length t) t)

@@ -1,6 +1,6 @@
 -- A list that takes the numbers of a text from its beginning, as many as it has places for: the invariant of such a loop.
-use mathlib.Core.Path.{◌≡◌, refl, ◌∙◌}
-use mathlib.Core.List.{List, [], ◌∷◌, ◌++◌, append_assoc}
+use mathlib.Core.Path.{◌≡◌, refl, sym, ap, ◌∙◌}
+use mathlib.Core.List.{List, [], ◌∷◌, ◌++◌, append_assoc, append-nil}
 use Prim.Native.Nat.{ℕ, ◌+◌}
 use native.Mathlib.Omega.{arith}
 use lib.IntN.{ℤ}
@@ -25,3 +25,9 @@ write_put {old} {out} {n} {v} {rest} w = record {
   counted = omega (arith, length-append w.new (v ∷ []), w.counted);
   holds = rw w.counted (filled_next w.new old v w.holds);
 }
+
+pub write_count : {old out : List ℤ} {n : ℕ} {all : List ℤ} → Writing old out n [] all → n ≡ length all
+write_count w = w.counted ∙ ap length (sym (append-nil w.new) ∙ w.whole)
+
+pub write_end : {old out : List ℤ} {n : ℕ} {all : List ℤ} → Writing old out n [] all → out ≡ filled_with all old
+write_end {old} w = w.holds ∙ ap (λ (x : List ℤ). filled_with x old) (sym (append-nil w.new) ∙ w.whole)

@@ -83,26 +83,28 @@ pub fn write_numbers(text: &[u8], book: &mut [i32]) -> usize
     read_fields(true, true, text, book).unwrap()
 }
 
-// The place of the first byte 10.
-fn line_end(text: &[u8]) -> Option<usize>
-    ensures { result ≡ position (λ b. b == newline) text.now }
-{
-    text.iter().position(|b| *b == b'\n')
-}
-
 // Reads the line of a book that starts at `at`: its numbers, its kind first, as many as `row` has places for.
 pub fn read_row(text: &[u8], at: usize, row: &mut [i32]) -> Option<TextLine>
     requires { at < length text.now }
     ensures read { RowRead text.now at row.old row.new result }
     ensures row_len_unchanged { length row.new ≡ length row.old }
 {
-    let rest = &text[at..];
-    let last = line_end(rest)?;
-    let count = read_fields(true, true, &rest[..=last], row)?;
-    Some(TextLine {
-        count,
-        end: at + last + 1,
-    })
+    let mut line = true;
+    let mut count = 0;
+    let mut end = at;
+    // No range: fields differ in length, and the next begins where the one that was read ends. No walk over the line's bytes before:
+    // a field that is not as it should be ends the reading, however long the line is.
+    while end < text.len() {
+        let field = fields::read_field(true, line, text, end)?;
+        put(row, count, field.number);
+        count += 1;
+        end = field.end;
+        if field.last {
+            return Some(TextLine { count, end });
+        }
+        line = false;
+    }
+    None
 }
 
 // The numbers of a direction's text: how many there are, and as many as `row` has places for.
