@@ -1,4 +1,6 @@
 // The text of a book or a direction, a field at a time: a line's letter or a number, with the mark that ends it.
+// Two walks over a text read its fields (crate `text`). Those of these functions that a field always goes through are put into both, by `inline(always)`: as
+// calls they take half as much time again (docs/SPEED.md).
 #![tactic(auto)]
 
 ghost use Rattle.std.specs.Prelude.{◌≡◌, Bool, true, ◌&&◌, ◌-◌, ◌≤◌, ◌<◌, length};
@@ -44,6 +46,7 @@ fn goes_on(v: u32, b: u8) -> bool
 }
 
 // Reads on behind the digits that make v, as far as a digit may follow.
+#[inline(always)]
 fn read_digits(text: &[u8], at: usize, v: u32) -> Numeral
     requires v_bound { v ≤ 9_999_999 }
     requires at_in_bounds { at ≤ length text.now }
@@ -71,6 +74,7 @@ pub fn signed(minus: bool, v: u32) -> i32
 }
 
 // A comma or the byte 10 has to end a number, at `at` behind all of its digits.
+#[inline(always)]
 fn end_number(text: &[u8], minus: bool, v: u32, at: usize) -> Option<Piece>
     requires v_bound { v ≤ 9_999_999 }
     requires no_more { NoMore text.now at v }
@@ -89,6 +93,7 @@ fn end_number(text: &[u8], minus: bool, v: u32, at: usize) -> Option<Piece>
 }
 
 // The rest of a number, behind the digit b that it begins with.
+#[inline(always)]
 fn rest_of_number(text: &[u8], minus: bool, b: u8, at: usize) -> Option<Piece>
     requires b_value { is_digit b ≡ true }
     requires at_in_bounds { at ≤ length text.now }
@@ -109,6 +114,7 @@ fn read_negative(text: &[u8], at: usize) -> Option<Piece>
 }
 
 // A number, which begins with a minus or a digit.
+#[inline(always)]
 fn read_number(text: &[u8], at: usize) -> Option<Piece>
     requires { at < length text.now }
     ensures { (book : Bool) → FieldRead book Field text.now at result }
@@ -136,6 +142,7 @@ fn kind_of(b: u8) -> Option<i32>
 }
 
 // A line's letter, in a book, with the comma that follows it; a direction has no second line.
+#[inline(always)]
 fn read_letter(book: bool, text: &[u8], at: usize) -> Option<Piece>
     requires { at < length text.now }
     ensures { FieldRead book Line text.now at result }
@@ -155,6 +162,7 @@ fn read_letter(book: bool, text: &[u8], at: usize) -> Option<Piece>
 }
 
 // A field, at a line's beginning or behind a comma, where one stands there.
+#[inline(always)]
 pub fn read_field(book: bool, line: bool, text: &[u8], at: usize) -> Option<Piece>
     requires { at < length text.now }
     ensures { FieldRead book (start line) text.now at result }
