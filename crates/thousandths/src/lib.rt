@@ -15,15 +15,22 @@ pub fn are_digits(field: &[u8]) -> bool
     !field.is_empty() && field.iter().all(u8::is_ascii_digit)
 }
 
+// Behind a count below this one there is room for any digit more.
+const SURELY_FITS: usize = 1_000_000_000_000_000_000;
+
 // The number that digits make, or the largest number of its type where it would not fit.
 pub fn count_of(digits: &[u8]) -> usize
     requires { are_digits digits.now ≡ true }
     ensures { CountIs (digits_value 0 digits.now) result }
 {
     digits.iter().fold(0usize, |count, b| {
-        count
-            .saturating_mul(10)
-            .saturating_add(usize::from(b.saturating_sub(b'0')))
+        let digit = usize::from(b.saturating_sub(b'0'));
+        // Nearly every digit goes this way, in half the time.
+        if count < SURELY_FITS {
+            count * 10 + digit
+        } else {
+            count.saturating_mul(10).saturating_add(digit)
+        }
     })
 }
 
