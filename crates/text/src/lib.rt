@@ -1,11 +1,10 @@
 // The texts of books and directions: questions 1 and 8, their numbers, and a book's lines one at a time.
-// A text is read a field at a time (crate `fields`), by the one walk over its fields, `read_fields`.
+// A text is read a field at a time (crate `fields`), by two walks over its fields: `read_fields` over all of them, `read_row` over those of a line.
 #![tactic(auto)]
 
-ghost use Rattle.std.specs.Prelude.{◌≡◌, true, ◌==◌, ◌≤◌, ◌<◌, IfSome, OnSome, is_some, position, length, set};
+ghost use Rattle.std.specs.Prelude.{◌≡◌, true, ◌≤◌, ◌<◌, IfSome, OnSome, is_some, length, set};
 ghost use Rattle.meaning.specs.Book.{is_book_text};
 ghost use Rattle.meaning.specs.Direction.{is_direction_text, direction_numbers};
-ghost use Rattle.meaning.specs.Numerals.{newline};
 ghost use Rattle.meaning.specs.Reply.{written_over, filled_with};
 ghost use Rattle.fields.specs.Scan.{run, at_line, emit};
 ghost use Rattle.fields.specs.Fields.{start};
