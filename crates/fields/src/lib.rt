@@ -1,6 +1,6 @@
 // The text of a book or a direction, a field at a time: a line's letter or a number, with the mark that ends it.
-// Two walks over a text read its fields (crate `text`). Those of these functions that a field always goes through are put into both, by `inline(always)`: as
-// calls they take half as much time again (docs/SPEED.md).
+// Two walks over a text read its fields (crate `text`). The functions that most fields go through are put into both, by `inline(always)`: as calls they take
+// more time (docs/SPEED.md).
 #![tactic(auto)]
 
 ghost use Rattle.std.specs.Prelude.{◌≡◌, Bool, true, ◌&&◌, ◌-◌, ◌≤◌, ◌<◌, length};

@@ -33,7 +33,7 @@ not_moved old list i size h e =
     ∙ get_or-append-add front (drop i old) size (pos 0) ∙ get_or-drop i old size (pos 0)
     ∙ ap (λ (k : ℕ). get_or old k (pos 0)) (sym s) ∙ sym (get_or-drop size old i (pos 0))
 
--- zeros behind what moved down, as code's `clear(&mut list[kept..])` has it
+-- zeros behind what moved down, as code's `list[kept..].fill(0)` has it
 pub taken_out : (old list part : List ℤ) (size : ℕ) → size ≤ length old → list ≡ written_over (drop size old) old
     → part ≡ replicate (length (take (length list - (length list - size)) (drop (length list - size) list))) (pos 0)
     → take (length list - size) list ++ (part ++ drop (length list - (length list - size)) (drop (length list - size) list)) ≡ drop size old ++ replicate size (pos 0)

@@ -8,6 +8,7 @@ ghost use Rattle.arpa.specs.Words.{spelled};
 ghost use Rattle.spelling.specs.Lines.{line_at, starts_size, Starts, Lined};
 ghost use Rattle.spelling.specs.Index.{bucket_count, bucket_of, spelled_before, NumberIs, bucket_at, links_from, index_size, Cleared, Indexed, Spelling};
 
+use tokens::same::same_bytes;
 use tokens::scan::run_end;
 
 // "to 65,534"
@@ -89,7 +90,7 @@ fn find(
     // No iterator: the chain goes from link to link, as they stand in the list.
     while at > 0 {
         let k = at - 1;
-        if line_at(list, starts, k) == word {
+        if same_bytes(line_at(list, starts, k), word) {
             return Some(at);
         }
         at = halves::number_at(index, LINKS + k);

@@ -25,7 +25,7 @@ pub fn count_of(digits: &[u8]) -> usize
 {
     digits.iter().fold(0usize, |count, b| {
         let digit = usize::from(b.saturating_sub(b'0'));
-        // Nearly every digit goes this way, in half the time.
+        // Nearly every digit goes this way, and takes less time.
         if count < SURELY_FITS {
             count * 10 + digit
         } else {

@@ -1,22 +1,16 @@
 -- A run of bytes that pass a test: one byte further, its end, and what stands behind it.
 use Prim.Native.Nat.{ℕ, ◌+◌, ◌≤◌, ◌<◌}
-use mathlib.Core.Path.{◌≡◌, refl, sym, ap, ◌∙◌}
-use mathlib.Core.Bool.{Bool, true, false, cond}
+use mathlib.Core.Path.{◌≡◌, sym, ap, ◌∙◌}
+use mathlib.Core.Bool.{Bool, true, false}
 use mathlib.Core.List.{List, [], ◌∷◌}
 use native.Mathlib.Omega.{arith}
 use lib.ListN.{length, drop, get_or, length-drop}
 use lib.Seq.{get_or-drop}
-use Rattle.std.specs.List.{prefix_len}
-use Rattle.std.proofs.lemmas.List.Recursion.{same_from_clauses}
 use Rattle.laws.proofs.Tests.{by_test}
 use Rattle.laws.proofs.Lists.{drop_next}
 use Rattle.tokens.specs.Scan.{run_length}
 
 module _ (test : ℕ → Bool) where
-  -- std's word for it
-  pub run_prefix : (t : List ℕ) → prefix_len test t ≡ run_length test t
-  run_prefix t = same_from_clauses (prefix_len test) (run_length test) (λ b n. cond (test b) (1 + n) 0) refl (λ b t. refl) (λ b t. ap (λ (n : ℕ). cond (test b) n 0) (omega arith)) t
-
   pub run_within : (t : List ℕ) → run_length test t ≤ length t
   run_within [] = omega arith
   run_within (b ∷ t) = let ih = run_within t in by_test (test b) (λ e. rw e (omega arith)) (λ e. rw e (omega arith))

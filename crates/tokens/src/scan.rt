@@ -31,7 +31,7 @@ pub fn run_end<F: Fn(u8) -> bool>(text: &[u8], at: usize, passes: F) -> usize
     requires at_in_bounds { at ≤ length text.now }
     ensures { (test : ℕ → Bool) → ((b : ℕ) (r : Bool) → F.post passes b r → r ≡ test b) → result ≡ at + run_length test (drop at text.now) }
 {
-    // Not `take_while(..).count()`, which takes up to two thirds more time (docs/SPEED.md).
+    // Not `take_while(..).count()`, which takes more time (docs/SPEED.md).
     let mut end = at;
     for &b in &text[at..] {
         if !passes(b) {
