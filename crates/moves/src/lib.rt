@@ -9,17 +9,9 @@ pub fn put_front(list: &mut [i32], numbers: &[i32])
     requires { length numbers.now ≤ length list.old }
     ensures { list.new ≡ written_over numbers.now list.old }
 {
-    list[..numbers.len()].copy_from_slice(numbers);
-}
-
-// Moves what stands behind the first `size` numbers down to the front; the last `size` places stay as they were. No `copy_within`: the library for C would
-// then need `memmove` from outside.
-fn move_down(list: &mut [i32], size: usize)
-    requires { size ≤ length list.old }
-    ensures { list.new ≡ written_over (drop size list.old) list.old }
-{
-    for i in 0..list.len() - size {
-        list[i] = list[i + size];
+    // Not `copy_from_slice`, by which the library for C would need `memmove` from outside.
+    for i in 0..numbers.len() {
+        list[i] = numbers[i];
     }
 }
 
@@ -28,7 +20,7 @@ pub fn take_out(list: &mut [i32], size: usize)
     requires { size ≤ length list.old }
     ensures { list.new ≡ drop size list.old ++ replicate size (pos 0) }
 {
-    move_down(list, size);
+    list.copy_within(size.., 0);
     let kept = list.len() - size;
     list[kept..].fill(0);
 }
