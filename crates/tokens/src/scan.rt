@@ -31,10 +31,10 @@ pub fn run_end<F: Fn(u8) -> bool>(text: &[u8], at: usize, passes: F) -> usize
     requires at_in_bounds { at ≤ length text.now }
     ensures { (test : ℕ → Bool) → ((b : ℕ) (r : Bool) → F.post passes b r → r ≡ test b) → result ≡ at + run_length test (drop at text.now) }
 {
-    // Not `take_while(..).count()`, which takes more time (docs/SPEED.md).
+    // No iterator and no range: both take more time here (docs/SPEED.md).
     let mut end = at;
-    for &b in &text[at..] {
-        if !passes(b) {
+    while end < text.len() {
+        if !passes(text[end]) {
             return end;
         }
         end += 1;
